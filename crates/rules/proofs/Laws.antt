@@ -1,0 +1,77 @@
+-- Laws of the rules' numbers that more than one proof cites: the difference modulo SF as sums and remainders of naturals, and the position a preset gives.
+-- Assumes nothing.
+use Prim.Native.Nat.{ℕ, zero, suc, _+_, _-_, _*_, _/_, _%_, _≤_, _<_}
+use mathlib.Core.Bool.{Bool, true, false, cond}
+use mathlib.Core.Path.{_≡_, refl, sym, ap, _∙_}
+use native.Mathlib.Nat.{mod-lt, mod-eq-of-lt, mod-mod, add-mod-mod, mod-add-mod, add-mod-right, add-mul-mod-self-right, div-add-mod'}
+use native.Mathlib.Omega.{arith}
+use borrow.Author.Tests.{ltb-true, ltb-false}
+use lib.Dec.{ltb, leb}
+use lib.IntN.{ℤ, pos, negsuc, subℕ}
+use Rattle.rules.specs.Words.{modulo}
+use Rattle.rules.specs.Groups.{ahead}
+
+-- a remainder stays below its divisor
+pub mod-below : (x t : ℕ) → x % (t + 1) < t + 1
+mod-below x t = mod-lt x (omega arith)
+
+pub modulo-below : (z : ℤ) (t : ℕ) → modulo z (t + 1) < t + 1
+unfolding modulo
+modulo-below (pos n) t = mod-below n t
+modulo-below (negsuc n) t = omega arith
+
+-- (a − b) mod n: to a add what b lacks to the next multiple of n
+by-order : (a b t : ℕ) (less : Bool) → ltb a b ≡ less → modulo (subℕ a b) (t + 1) ≡ (a + (t + 1 - b % (t + 1))) % (t + 1)
+unfolding modulo
+by-order a b t true h =
+    let n : ℕ = t + 1 in
+    let k : ℕ = b - suc a in
+    let l : a < b = ltb-true a b h in
+    let r : ℕ = t + 1 - 1 - k % (t + 1) in
+    let e : a + (t + 1 - b % (t + 1)) + k / (t + 1) * (t + 1) ≡ r + b / (t + 1) * (t + 1) =
+    omega (arith, div-add-mod' k (t + 1), div-add-mod' b (t + 1), mod-below k t, mod-below b t) in
+    rw h
+    (sym (mod-eq-of-lt (omega arith))
+    ∙ sym (add-mul-mod-self-right r (b / (t + 1)) (t + 1))
+    ∙ ap (λ (x : ℕ). x % (t + 1)) (sym e)
+    ∙ add-mul-mod-self-right (a + (t + 1 - b % (t + 1))) (k / (t + 1)) (t + 1))
+by-order a b t false h =
+    let l : b ≤ a = ltb-false a b h in
+    let e : a + (t + 1 - b % (t + 1)) ≡ a - b + 1 * (t + 1) + b / (t + 1) * (t + 1) =
+    omega (arith, div-add-mod' b (t + 1), mod-below b t) in
+    rw (h, e) (sym (add-mul-mod-self-right (a - b + 1 * (t + 1)) (b / (t + 1)) (t + 1) ∙ add-mul-mod-self-right (a - b) 1 (t + 1)))
+
+pub modulo-natural : (a b t : ℕ) → modulo (subℕ a b) (t + 1) ≡ (a + (t + 1 - b % (t + 1))) % (t + 1)
+modulo-natural a b t = by-order a b t (ltb a b) refl
+
+pub ahead-natural : (t from to : ℕ) → ahead (t + 1) from to ≡ (to + (t + 1 - from % (t + 1))) % (t + 1)
+unfolding ahead
+ahead-natural t from to = modulo-natural to from t
+
+pub ahead-below : (t from to : ℕ) → ahead (t + 1) from to < t + 1
+unfolding ahead
+ahead-below t from to = modulo-below (subℕ to from) t
+
+-- where both are in range one comparison gives it, with no division
+pub ahead-up : (t from to : ℕ) → from ≤ to → to ≤ t → ahead (t + 1) from to ≡ to - from
+ahead-up t from to h k =
+    ahead-natural t from to
+    ∙ (let e : from % (t + 1) ≡ from = mod-eq-of-lt (omega arith) in
+    let s : to + (t + 1 - from) ≡ to - from + (t + 1) = omega arith in
+    rw (e, s) (add-mod-right (to - from) (t + 1) ∙ mod-eq-of-lt (omega arith)))
+
+pub ahead-round : (t from to : ℕ) → to < from → from ≤ t → ahead (t + 1) from to ≡ to + (t + 1 - from)
+ahead-round t from to h k =
+    ahead-natural t from to
+    ∙ (let e : from % (t + 1) ≡ from = mod-eq-of-lt (omega arith) in rw e (mod-eq-of-lt (omega arith)))
+
+-- `ahead` is what takes the one to the other
+pub ahead-takes : (t from to : ℕ) → (from + ahead (t + 1) from to) % (t + 1) ≡ to % (t + 1)
+ahead-takes t from to =
+    let n : from % (t + 1) < t + 1 = mod-below from t in
+    let e : from + (to + (t + 1 - from % (t + 1))) ≡ to + 1 * (t + 1) + from / (t + 1) * (t + 1) = omega (arith, div-add-mod' from (t + 1)) in
+    rw (ahead-natural t from to)
+    (add-mod-mod from (to + (t + 1 - from % (t + 1))) (t + 1)
+    ∙ ap (λ (x : ℕ). x % (t + 1)) e
+    ∙ add-mul-mod-self-right (to + 1 * (t + 1)) (from / (t + 1)) (t + 1)
+    ∙ add-mul-mod-self-right to 1 (t + 1))

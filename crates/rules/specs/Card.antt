@@ -31,6 +31,7 @@ use Rattle.rules.specs.declared.Event.{Event}
 use Rattle.rules.specs.declared.Refusal.the-variants.{UnknownModule}
 use Rattle.rules.specs.declared.Outcome.{Outcome}
 use Rattle.rules.specs.declared.Outcome.the-variants.{Idle, Accepted, Refused}
+use Rattle.rules.specs.declared.Decided.{Decided}
 use Rattle.rules.specs.declared.Programmed.{Programmed}
 use Rattle.rules.specs.declared.Answer.{Answer}
 use Rattle.rules.specs.declared.Stepped.{Stepped}
@@ -38,7 +39,7 @@ use Rattle.rules.specs.Words.{wordOf, table, modulo}
 use Rattle.rules.specs.Motion.{levelOf, scaleFactor, turned, machineAt, windowSteps, shortSteps, rpmOf, detects, travelValue}
 use Rattle.rules.specs.Groups.{groupAt, dwellHolds, groupPosition, presetShift, presets, edge, stops, running, isOpen}
 use Rattle.rules.specs.Switches.{pairHolds, timedSteps, Conditions, limitOf, switchPosition, outputRule, outputOn, soundAnswer, faultAnswer}
-use Rattle.rules.specs.Programming.{Result, freshConfiguration, modelKnown, modelOf, setupCycle, setupFile, groupCycle, groupFile, limitCycle, limitFile, nudgeCycle, sound, stepConfiguration}
+use Rattle.rules.specs.Programming.{freshConfiguration, modelKnown, modelOf, setupCycle, setupFile, groupCycle, groupFile, limitCycle, limitFile, nudgeCycle, sound, stepConfiguration}
 
 -- ---- Speed
 
@@ -284,7 +285,7 @@ unfoldable pub poweredUp : ℕ → Programmed
 poweredUp n = record { card = freshModule (modelOf n); outcome = cond (modelKnown n) Accepted (Refused UnknownModule) }
 
 -- a module after a cycle: the configuration that the cycle gives, and the start that its acceptance is
-abbrev pub programmed : Result → State → State → Programmed
+abbrev pub programmed : Decided → State → State → Programmed
 programmed r started x =
     record { card = record { configuration = r .configuration; state = cond (isAccepted (r .outcome)) started x }; outcome = r .outcome }
 

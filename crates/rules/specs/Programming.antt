@@ -32,6 +32,7 @@ use Rattle.rules.specs.declared.Cycle.the-variants.{SetupCycle, GroupCyc
 use Rattle.rules.specs.declared.Refusal.{Refusal}
 use Rattle.rules.specs.declared.Refusal.the-variants.{M0Length, M1Length, UnknownModule, BlockNumber, Ignored, SetupData, GroupData, LimitData, NudgeOutput, NudgeSetpoint, Transducer, TraceFile}
 use Rattle.rules.specs.declared.Outcome.{Outcome}
+use Rattle.rules.specs.declared.Decided.{Decided}
 use Rattle.rules.specs.declared.Outcome.the-variants.{Idle, Accepted, Refused}
 use Rattle.rules.specs.Words.{word, bit, bits, oneOf, someOf, eachOf, countOf, lowestOf, table, storedAt, otherBit, anyWord, modulo, signedWord}
 use Rattle.rules.specs.Motion.{realCount, ioCount, scaleFactor, turned, scaledPosition}
@@ -171,11 +172,6 @@ errorOf NudgeSetpoint e = record { setup = e .setup; group = e .group; limit = e
 errorOf Transducer e = e
 errorOf TraceFile e = e
 
--- a configuration after a call, with what the call answers
-pub record Result : Type 0 where
-  pub configuration : Configuration
-  pub outcome : Outcome
-
 -- transmit is set and acknowledge clear: "Otherwise the cycle acts"
 unfoldable pub acts : Cycle → ℕ → Configuration → Bool
 acts kind command g = bit command 15 && not (acknowledged kind (g .acknowledges))
@@ -194,30 +190,30 @@ opened kind clear g =
     }
 
 -- "Bit clear: acknowledge clears. Bit set with acknowledge set: nothing. Both answer Idle"; `act` is what an acting cycle does
-unfoldable pub cycle : Cycle → ℕ → Bool → (Configuration → Result) → Configuration → Result
+unfoldable pub cycle : Cycle → ℕ → Bool → (Configuration → Decided) → Configuration → Decided
 cycle kind command clear act g =
     cond (acts kind command g)
     (act (opened kind clear g))
     (record { configuration = cond (bit command 15) g (withAcknowledges g (withAcknowledge kind false (g .acknowledges))); outcome = Idle })
 
 -- refusals 1 and 2: "Nothing changes."
-unfoldable pub turnedAway : Refusal → Configuration → Result
+unfoldable pub turnedAway : Refusal → Configuration → Decided
 turnedAway why g = record { configuration = g; outcome = Refused why }
 
 -- refusal 5: "Sets MsgIgn, itself no error"
-unfoldable pub ignoredCycle : Configuration → Result
+unfoldable pub ignoredCycle : Configuration → Decided
 ignoredCycle g = record { configuration = withIgnored g true; outcome = Refused Ignored }
 
 -- refusals 6 to 10
-unfoldable pub refusedCycle : Refusal → Configuration → Result
+unfoldable pub refusedCycle : Refusal → Configuration → Decided
 refusedCycle why g = record { configuration = withErrors g (errorOf why (g .errors)); outcome = Refused why }
 
 -- the new programming is in force
-unfoldable pub acceptedCycle : Programming → Configuration → Result
+unfoldable pub acceptedCycle : Programming → Configuration → Decided
 acceptedCycle p g = record { configuration = withProgramming g p; outcome = Accepted }
 
 -- "5 comes first", then the data's refusal
-unfoldable pub judged : Bool → ℕ → Refusal → Programming → Configuration → Result
+unfoldable pub judged : Bool → ℕ → Refusal → Programming → Configuration → Decided
 judged barred errors why p g = cond barred (ignoredCycle g) (cond (eqb errors 0) (acceptedCycle p g) (refusedCycle why g))
 
 -- ClrErr of a file cycle: "bit 0"
@@ -293,12 +289,12 @@ withSetup p u =
     (noPrograms u)
     (record { setup = u; groups = p .groups; owners = p .owners; limits = p .limits })
 
-unfoldable pub setupActs : List ℕ → Configuration → Result
+unfoldable pub setupActs : List ℕ → Configuration → Decided
 setupActs file g =
     judged (stands (g .errors)) (setupErrors file) SetupData (withSetup (g .programming) (setupOf file (g .raw))) g
 
 -- "1: M0 length"; "Lengths come first, before the transmit bit is read"
-unfoldable pub setupCycle : Configuration → List ℕ → Result
+unfoldable pub setupCycle : Configuration → List ℕ → Decided
 setupCycle g file =
     cond (eqb (length file) m0Length)
     (cycle SetupCycle (word file 0) (clears (word file 0)) (setupActs file) g)
@@ -416,12 +412,12 @@ unfoldable pub withGroups : Programming → List Group → Programming
 withGroups p gs = record { setup = p .setup; groups = gs; owners = ownersOf gs; limits = replicate 32 noLimit }
 
 -- "5: an error stands, or a group cycle in Independent Mode."
-unfoldable pub groupActs : List ℕ → Configuration → Result
+unfoldable pub groupActs : List ℕ → Configuration → Decided
 groupActs file g =
     judged (stands (g .errors) || g .programming .setup .independent) (groupErrors (g .model) (scaleFactor (g .programming .setup)) file) GroupData
     (withGroups (g .programming) (table 6 1 (groupOf file))) g
 
-unfoldable pub groupCycle : Configuration → List ℕ → Result
+unfoldable pub groupCycle : Configuration → List ℕ → Decided
 groupCycle g file =
     cond (eqb (length file) m0Length)
     (cycle GroupCycle (word file 20) (clears (word file 20)) (groupActs file) g)
@@ -575,13 +571,13 @@ limitErrors m p file =
 unfoldable pub withLimits : Programming → List Limit → Programming
 withLimits p ls = record { setup = p .setup; groups = p .groups; owners = p .owners; limits = ls }
 
-unfoldable pub limitActs : List ℕ → Configuration → Result
+unfoldable pub limitActs : List ℕ → Configuration → Decided
 limitActs file g =
     judged (stands (g .errors)) (limitErrors (g .model) (g .programming) file) LimitData
     (withLimits (g .programming) (table 32 1 (limitFrom (g .model) file))) g
 
 -- "2: M1 length"
-unfoldable pub limitCycle : Configuration → List ℕ → Result
+unfoldable pub limitCycle : Configuration → List ℕ → Decided
 limitCycle g file =
     cond (eqb (length file) m1Length)
     (cycle LimitCycle (word file 0) (clears (word file 0)) (limitActs file) g)
@@ -663,7 +659,7 @@ unfoldable pub nudgedProgramming : Programming → ℕ → Programming
 nudgedProgramming p w = withLimits p (set (p .limits) (nudgeOutput w) (nudgedLimit (limitOf p (nudgeOutput w)) w))
 
 -- "14 drops errors and the fault and ends there, accepted, other bits unread"; then 5, 9, 10
-unfoldable pub nudgeActs : ℕ → Configuration → Result
+unfoldable pub nudgeActs : ℕ → Configuration → Decided
 nudgeActs w g =
     cond (bit w 14)
     (acceptedCycle (g .programming) g)
@@ -675,7 +671,7 @@ nudgeActs w g =
     (refusedCycle NudgeSetpoint g)
     (acceptedCycle (nudgedProgramming (g .programming) w) g))))
 
-unfoldable pub nudgeCycle : Configuration → ℕ → Result
+unfoldable pub nudgeCycle : Configuration → ℕ → Decided
 nudgeCycle g w = cycle NudgeCycle w (bit w 14) (nudgeActs w) g
 
 -- ---- The step's part of the configuration

@@ -273,6 +273,12 @@ pub enum Outcome {
     Refused(Refusal),
 }
 
+// A configuration after a programming cycle, with what the cycle answers.
+pub struct Decided {
+    pub configuration: Configuration,
+    pub outcome: Outcome,
+}
+
 // What power-up and a programming cycle answer, with the module after.
 pub struct Programmed {
     pub card: Module,

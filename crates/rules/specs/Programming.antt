@@ -189,12 +189,15 @@ opened kind clear g =
       raw = g .raw;
     }
 
--- "Bit clear: acknowledge clears. Bit set with acknowledge set: nothing. Both answer Idle"; `act` is what an acting cycle does
+-- "Bit clear: acknowledge clears. Bit set with acknowledge set: nothing. Both answer Idle and write nothing."
+unfoldable pub idleCycle : Cycle → ℕ → Configuration → Decided
+idleCycle kind command g =
+    record { configuration = cond (bit command 15) g (withAcknowledges g (withAcknowledge kind false (g .acknowledges))); outcome = Idle }
+
+-- `act` is what an acting cycle does
 unfoldable pub cycle : Cycle → ℕ → Bool → (Configuration → Decided) → Configuration → Decided
 cycle kind command clear act g =
-    cond (acts kind command g)
-    (act (opened kind clear g))
-    (record { configuration = cond (bit command 15) g (withAcknowledges g (withAcknowledge kind false (g .acknowledges))); outcome = Idle })
+    cond (acts kind command g) (act (opened kind clear g)) (idleCycle kind command g)
 
 -- refusals 1 and 2: "Nothing changes."
 unfoldable pub turnedAway : Refusal → Configuration → Decided

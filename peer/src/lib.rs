@@ -1,0 +1,24 @@
+//! The limit switch card: programming cycles, step, block reader and trace
+//! program. Written from document 01 and the 8500 manual, to be compared
+//! with the other implementation.
+
+mod cycles;
+mod step;
+
+pub mod blocks;
+pub mod camrun;
+pub mod group;
+pub mod limit_block;
+pub mod module;
+pub mod motion;
+pub mod pair;
+pub mod pulse;
+pub mod replay;
+pub mod setup;
+pub mod switch;
+pub mod words;
+
+pub use blocks::{read_block, Block};
+pub use cycles::{Answer, M0_WORDS, M1_WORDS};
+pub use module::{Module, Refusal};
+pub use step::{StepAnswer, SAMPLE_WORDS};

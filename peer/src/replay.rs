@@ -1,0 +1,179 @@
+//! A list of calls in, one line for each answer out.
+
+use std::io::{self, BufRead, Write};
+
+use crate::blocks::{read_block, Block};
+use crate::cycles::{Answer, M0_WORDS, M1_WORDS};
+use crate::module::Module;
+use crate::step::{StepAnswer, SAMPLE_WORDS};
+use crate::words::Words;
+
+/// A cycle over a file: its name, its file's length and status words.
+struct FileCycle {
+    name: &'static str,
+    cycle: fn(&mut Module, &mut [u16]) -> Answer,
+    file_words: usize,
+    status_start: usize,
+    status_end: usize,
+}
+
+static SETUP: FileCycle = FileCycle {
+    name: "setup",
+    cycle: Module::setup_cycle,
+    file_words: M0_WORDS,
+    status_start: 100,
+    status_end: 110,
+};
+
+static GROUP: FileCycle = FileCycle {
+    name: "group",
+    cycle: Module::group_cycle,
+    file_words: M0_WORDS,
+    status_start: 110,
+    status_end: 120,
+};
+
+static LIMIT: FileCycle = FileCycle {
+    name: "limit",
+    cycle: Module::limit_cycle,
+    file_words: M1_WORDS,
+    status_start: 630,
+    status_end: 650,
+};
+
+/// One call of the list.
+enum Call {
+    PowerUp(u16),
+    File(&'static FileCycle, Vec<u16>),
+    Nudge(u16),
+    Step([u16; SAMPLE_WORDS]),
+    Block(Block, Vec<u16>, Vec<u16>),
+}
+
+/// The next call, or None for an unknown opcode or a call cut short.
+fn read_call(words: &mut Words<impl BufRead>) -> Option<Call> {
+    Some(match words.next_word()? {
+        0 => Call::PowerUp(words.next_word()?),
+        1 => Call::File(&SETUP, read_file(words)?),
+        2 => Call::File(&GROUP, read_file(words)?),
+        3 => Call::File(&LIMIT, read_file(words)?),
+        4 => Call::Nudge(words.next_word()?),
+        5 => {
+            let mut sample = [0; SAMPLE_WORDS];
+            words.fill(&mut sample)?;
+            Call::Step(sample)
+        }
+        6 => {
+            let which = words.next_word()?;
+            let number = words.next_word()?;
+            let block = match which {
+                0 => Block::Group(number),
+                _ => Block::Limit(number),
+            };
+            Call::Block(block, read_file(words)?, read_file(words)?)
+        }
+        _ => return None,
+    })
+}
+
+/// A count and that many words.
+fn read_file(words: &mut Words<impl BufRead>) -> Option<Vec<u16>> {
+    let mut file = vec![0; usize::from(words.next_word()?)];
+    words.fill(&mut file)?;
+    Some(file)
+}
+
+/// Makes the calls. An error is one of the output only.
+pub fn run(input: impl BufRead, output: &mut impl Write) -> io::Result<()> {
+    let mut words = Words::new(input);
+    let mut module = None;
+    while !words.is_empty() {
+        match read_call(&mut words) {
+            Some(call) => make_call(call, &mut module, output)?,
+            None => return writeln!(output, "bad"),
+        }
+    }
+    Ok(())
+}
+
+fn make_call(call: Call, module: &mut Option<Module>, output: &mut impl Write) -> io::Result<()> {
+    match (call, module) {
+        (Call::PowerUp(number), module) => power_up(number, module, output),
+        (Call::Block(block, m0, m1), _) => {
+            let (refusal, part) = read_block(&m0, &m1, block);
+            write!(output, "block {refusal}")?;
+            write_words(part, output)?;
+            writeln!(output)
+        }
+        (_, None) => writeln!(output, "none"),
+        (Call::File(kind, mut file), Some(module)) => {
+            let answer = (kind.cycle)(module, &mut file);
+            write_cycle(kind.name, answer, module, output)?;
+            if file.len() == kind.file_words {
+                write_words(&file[kind.status_start..kind.status_end], output)?;
+            }
+            writeln!(output)
+        }
+        (Call::Nudge(word), Some(module)) => {
+            let answer = module.nudge_cycle(word);
+            write_cycle("nudge", answer, module, output)?;
+            writeln!(output)
+        }
+        (Call::Step(sample), Some(module)) => write_step(&module.step(&sample), output),
+    }
+}
+
+/// A refused power-up leaves the module of before.
+fn power_up(number: u16, module: &mut Option<Module>, output: &mut impl Write) -> io::Result<()> {
+    match Module::power_up(number) {
+        Ok(fresh) => {
+            *module = Some(fresh);
+            writeln!(output, "power 0")
+        }
+        Err(refusal) => writeln!(output, "power {}", refusal.number()),
+    }
+}
+
+fn write_words(words: &[u16], output: &mut impl Write) -> io::Result<()> {
+    words
+        .iter()
+        .try_for_each(|word| write!(output, " {word:04x}"))
+}
+
+fn write_cycle(
+    name: &str,
+    answer: Answer,
+    module: &Module,
+    output: &mut impl Write,
+) -> io::Result<()> {
+    write!(output, "{name} ")?;
+    match answer {
+        Answer::Idle => write!(output, "idle")?,
+        Answer::Accepted => write!(output, "0")?,
+        Answer::Refused(refusal) => write!(output, "{}", refusal.number())?,
+    }
+    write!(
+        output,
+        " {:x} {:02x} {} {}",
+        module.acknowledges(),
+        module.errors(),
+        u8::from(module.fault()),
+        u8::from(module.message_ignored())
+    )
+}
+
+fn write_step(answer: &StepAnswer, output: &mut impl Write) -> io::Result<()> {
+    let [md1, md2] = answer.detectors.map(u8::from);
+    writeln!(
+        output,
+        "step {} {} {} {} {} {md1} {md2} {:04x} {:04x} {}",
+        answer.refusal.map_or(0, |refusal| refusal.number()),
+        answer.machine_position.0,
+        answer.rpm,
+        answer.tach,
+        u8::from(answer.tach_overflow),
+        answer.real_outputs,
+        answer.virtual_outputs,
+        answer.changed
+    )
+}

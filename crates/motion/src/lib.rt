@@ -35,7 +35,7 @@ fn present(m: Model) -> u16
     }
 }
 
-// The word of the active real inputs: a current that equals its active state, then the forces, off before on; a missing input is inactive.
+// The word of the active real inputs: a current that equals its active state, then the forces, off beats on; a missing input is inactive.
 pub fn real_inputs(m: Model, u: Setup, s: Sample) -> u16
     ensures { λ r. ⌜ r ≡ words.wordOf 0 (motion.realInput m u s) ⌝ }
 {

@@ -1,8 +1,8 @@
 -- `motion::biased_movement` meets its contract: the difference modulo 1024 as a remainder of naturals. Assumes nothing.
 use mathlib.Core.Path.{sym}
+use borrow.Author.Needs.{needs}
 use Rattle.rules.specs.Card.{biasedMovement}
 use Rattle.motion.proofs.Laws.{biased-natural}
-use borrow.Author.Needs.{needs}
 use Rattle.motion.proofs.biased_movement.Statement.{statement}
 use Rattle.motion.proofs.biased_movement.Tie as tie
 

@@ -1,10 +1,10 @@
 -- `motion::detects` meets its contract by the order of the setpoints and rpm. Assumes nothing.
-use native.Mathlib.Omega.{arith}
 use mathlib.Core.Path.{_≡_}
+use native.Mathlib.Omega.{arith}
 use borrow.Author.Tests.{le-leb, lt-leb, eq-eqb}
+use borrow.Author.Needs.{needs}
 use Rattle.rules.specs.Motion.{detects}
 use Rattle.motion.proofs.Laws.{not-both}
-use borrow.Author.Needs.{needs}
 use Rattle.motion.proofs.detects.Statement.{statement}
 use Rattle.motion.proofs.detects.Tie as tie
 
@@ -28,7 +28,6 @@ returns c =
 returns-2 : tie.Need-returns-2
 unfolding detects
 returns-2 c =
-    let d = c .before .before .before .before .before .args .d in
     simp (not-both _ _ (c .before .before .if1 .left), le-leb _ _ (c .before .if2 .taken), lt-leb _ _ (c .if3 .taken))
 
 returns-3 : tie.Need-returns-3

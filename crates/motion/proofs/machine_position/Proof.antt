@@ -1,10 +1,10 @@
 -- `motion::machine_position` meets its contract: the scaled position fits, and the remainder is below SF. Assumes nothing.
 use Prim.Native.Nat.{_+_}
 use native.Mathlib.Omega.{arith}
-use Rattle.rules.specs.Motion.{turned, machinePosition}
-use Rattle.motion.proofs.Laws.{scaled-le}
-use Rattle.rules.proofs.Laws.{mod-below}
 use borrow.Author.Needs.{needs}
+use Rattle.rules.specs.Motion.{machinePosition}
+use Rattle.rules.proofs.Laws.{mod-below}
+use Rattle.motion.proofs.Laws.{scaled-le}
 use Rattle.motion.proofs.machine_position.Statement.{statement}
 use Rattle.motion.proofs.machine_position.Tie as tie
 

@@ -1,7 +1,7 @@
 -- `motion::present` meets its contract: each word is computed. Assumes nothing.
+use borrow.Author.Needs.{needs}
 use Rattle.rules.specs.Words.{packed}
 use Rattle.rules.specs.Motion.{realCount}
-use borrow.Author.Needs.{needs}
 use Rattle.motion.proofs.present.Statement.{statement}
 use Rattle.motion.proofs.present.Tie as tie
 

@@ -1,6 +1,6 @@
 -- `motion::real_inputs` meets its contract: the words of the inputs are taken bit by bit. Assumes nothing.
-use Rattle.motion.proofs.Laws.{inputs-word}
 use borrow.Author.Needs.{needs}
+use Rattle.motion.proofs.Laws.{inputs-word}
 use Rattle.motion.proofs.real_inputs.Statement.{statement}
 use Rattle.motion.proofs.real_inputs.Tie as tie
 

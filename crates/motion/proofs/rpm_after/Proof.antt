@@ -1,8 +1,8 @@
 -- `motion::rpm_after` meets its contract: rpm goes by the magnitude of C. Assumes nothing.
 use mathlib.Core.Path.{sym, _∙_}
-use Rattle.rules.specs.Card.{updates, rpmAfter}
-use Rattle.motion.proofs.Laws.{rpm-travel}
 use borrow.Author.Needs.{needs}
+use Rattle.rules.specs.Card.{rpmAfter}
+use Rattle.motion.proofs.Laws.{rpm-travel}
 use Rattle.motion.proofs.rpm_after.Statement.{statement}
 use Rattle.motion.proofs.rpm_after.Tie as tie
 

@@ -1,8 +1,8 @@
 -- `motion::rpm_of` meets its contract: the quotients are reduced to numerals. Assumes nothing.
 use native.Mathlib.Omega.{arith}
+use borrow.Author.Needs.{needs}
 use Rattle.rules.specs.Words.{roundHalfUp}
 use Rattle.rules.specs.Motion.{windowTime, rpmOf}
-use borrow.Author.Needs.{needs}
 use Rattle.motion.proofs.rpm_of.Statement.{statement}
 use Rattle.motion.proofs.rpm_of.Tie as tie
 

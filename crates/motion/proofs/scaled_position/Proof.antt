@@ -1,10 +1,10 @@
 -- `motion::scaled_position` meets its contract: the product of two words fits. Assumes nothing.
 use Prim.Native.Nat.{_+_}
+use mathlib.Core.Path.{refl}
 use native.Mathlib.Nat.{mul-le-mul}
 use native.Mathlib.Omega.{arith}
-use mathlib.Core.Path.{refl}
-use Rattle.rules.specs.Motion.{scaledPosition}
 use borrow.Author.Needs.{needs}
+use Rattle.rules.specs.Motion.{scaledPosition}
 use Rattle.motion.proofs.scaled_position.Statement.{statement}
 use Rattle.motion.proofs.scaled_position.Tie as tie
 

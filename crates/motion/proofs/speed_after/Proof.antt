@@ -1,6 +1,6 @@
 -- `motion::speed_after` meets its contract part by part. Assumes nothing.
-use Rattle.rules.specs.Card.{speedAfter}
 use borrow.Author.Needs.{needs}
+use Rattle.rules.specs.Card.{speedAfter}
 use Rattle.motion.proofs.speed_after.Statement.{statement}
 use Rattle.motion.proofs.speed_after.Tie as tie
 

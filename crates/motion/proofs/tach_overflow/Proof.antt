@@ -1,6 +1,6 @@
 -- `motion::tach_overflow` meets its contract by the value. Assumes nothing.
-use Rattle.rules.specs.Motion.{tachOverflow}
 use borrow.Author.Needs.{needs}
+use Rattle.rules.specs.Motion.{tachOverflow}
 use Rattle.motion.proofs.tach_overflow.Statement.{statement}
 use Rattle.motion.proofs.tach_overflow.Tie as tie
 

@@ -1,7 +1,7 @@
 -- `motion::tach_reading` meets its contract by the order of the value and 32767. Assumes nothing.
 use borrow.Author.Tests.{lt-ltb, le-ltb}
-use Rattle.rules.specs.Motion.{tachReading}
 use borrow.Author.Needs.{needs}
+use Rattle.rules.specs.Motion.{tachReading}
 use Rattle.motion.proofs.tach_reading.Statement.{statement}
 use Rattle.motion.proofs.tach_reading.Tie as tie
 

@@ -2,10 +2,10 @@
 use Prim.Native.Nat.{_+_, _*_, _≤_}
 use native.Mathlib.Nat.{mul-le-mul}
 use native.Mathlib.Omega.{arith}
+use borrow.Author.Needs.{needs}
 use Rattle.rules.specs.Words.{roundHalfUp}
 use Rattle.rules.specs.Motion.{tachValue}
 use Rattle.motion.proofs.Laws.{power-pos, power-le}
-use borrow.Author.Needs.{needs}
 use Rattle.motion.proofs.tach_value.Statement.{statement}
 use Rattle.motion.proofs.tach_value.Tie as tie
 

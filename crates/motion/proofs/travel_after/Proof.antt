@@ -1,7 +1,7 @@
 -- `motion::travel_after` meets its contract by the window's update. Assumes nothing.
 use mathlib.Core.Path.{sym, _∙_}
-use Rattle.rules.specs.Card.{updates, travelAfter}
 use borrow.Author.Needs.{needs}
+use Rattle.rules.specs.Card.{travelAfter}
 use Rattle.motion.proofs.travel_after.Statement.{statement}
 use Rattle.motion.proofs.travel_after.Tie as tie
 

@@ -1,7 +1,7 @@
 -- `motion::travel_of` meets its contract by the order of the sum and what was added. Assumes nothing.
 use borrow.Author.Tests.{lt-ltb, le-ltb}
-use Rattle.rules.specs.Card.{travelOf}
 use borrow.Author.Needs.{needs}
+use Rattle.rules.specs.Card.{travelOf}
 use Rattle.motion.proofs.travel_of.Statement.{statement}
 use Rattle.motion.proofs.travel_of.Tie as tie
 

@@ -1,8 +1,8 @@
 -- `motion::turned` meets its contract: the difference modulo 1024 as a remainder of naturals. Assumes nothing.
 use mathlib.Core.Path.{sym}
+use borrow.Author.Needs.{needs}
 use Rattle.rules.specs.Motion.{turned}
 use Rattle.motion.proofs.Laws.{turned-natural}
-use borrow.Author.Needs.{needs}
 use Rattle.motion.proofs.turned.Statement.{statement}
 use Rattle.motion.proofs.turned.Tie as tie
 

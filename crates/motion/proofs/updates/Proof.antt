@@ -1,6 +1,6 @@
 -- `motion::updates` meets its contract: the last step is the one that brings the window to its size. Assumes nothing.
-use Rattle.motion.proofs.Laws.{updates-natural}
 use borrow.Author.Needs.{needs}
+use Rattle.motion.proofs.Laws.{updates-natural}
 use Rattle.motion.proofs.updates.Statement.{statement}
 use Rattle.motion.proofs.updates.Tie as tie
 

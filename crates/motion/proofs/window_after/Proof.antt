@@ -1,9 +1,9 @@
 -- `motion::window_after` meets its contract: before the last step the steps are below the size. Assumes nothing.
-use native.Mathlib.Omega.{arith}
 use mathlib.Core.Path.{sym, _∙_}
-use Rattle.rules.specs.Card.{updates, windowAfter}
-use Rattle.motion.proofs.Laws.{steps-below}
+use native.Mathlib.Omega.{arith}
 use borrow.Author.Needs.{needs}
+use Rattle.rules.specs.Card.{windowAfter}
+use Rattle.motion.proofs.Laws.{steps-below}
 use Rattle.motion.proofs.window_after.Statement.{statement}
 use Rattle.motion.proofs.window_after.Tie as tie
 

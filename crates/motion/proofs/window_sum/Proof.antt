@@ -1,6 +1,6 @@
 -- `motion::window_sum` meets its contract by the wrapping sum. Assumes nothing.
-use Rattle.rules.specs.Card.{windowSum}
 use borrow.Author.Needs.{needs}
+use Rattle.rules.specs.Card.{windowSum}
 use Rattle.motion.proofs.window_sum.Statement.{statement}
 use Rattle.motion.proofs.window_sum.Tie as tie
 

@@ -156,17 +156,11 @@ rpm-travel fast t = rw (travel-size t)
 
 -- ---- Tachometer and detectors
 
-pub power-pos : (code : DecimalCode) → 0 < 10 ^ codeNumber code
-power-pos Code0 = omega arith
-power-pos Code1 = omega arith
-power-pos Code2 = omega arith
-power-pos Code3 = omega arith
-
-pub power-le : (code : DecimalCode) → 10 ^ codeNumber code ≤ 1000
-power-le Code0 = omega arith
-power-le Code1 = omega arith
-power-le Code2 = omega arith
-power-le Code3 = omega arith
+pub power-range : (code : DecimalCode) → (0 < 10 ^ codeNumber code) × (10 ^ codeNumber code ≤ 1000)
+power-range Code0 = (omega arith, omega arith)
+power-range Code1 = (omega arith, omega arith)
+power-range Code2 = (omega arith, omega arith)
+power-range Code3 = (omega arith, omega arith)
 
 -- not both are 0
 pub not-both : (a b : ℕ) → (a + b ≡ 0 → ⊥) → eqb a 0 && eqb b 0 ≡ false

@@ -5,18 +5,18 @@ use native.Mathlib.Omega.{arith}
 use borrow.Author.Needs.{needs}
 use Rattle.rules.specs.Words.{roundHalfUp}
 use Rattle.rules.specs.Motion.{tachValue}
-use Rattle.motion.proofs.Laws.{power-pos, power-le}
+use Rattle.motion.proofs.Laws.{power-range}
 use Rattle.motion.proofs.tach_value.Statement.{statement}
 use Rattle.motion.proofs.tach_value.Tie as tie
 
 -- the divisor is from 1 to 65536 × 1000, the product at most that of 32 and 16 bits
 divisor-le : (c : tie.After-power-of-ten) → (c .before .before .args .k .divider + 1) * c .power-of-ten .result ≤ 65536 * 1000
 divisor-le c =
-    mul-le-mul {n₂ = 65536} {m₂ = 1000} (search needs) (omega (arith, c .power-of-ten .ensures, power-le (c .before .before .args .k .code)))
+    mul-le-mul {n₂ = 65536} {m₂ = 1000} (search needs) (omega (arith, c .power-of-ten .ensures, power-range (c .before .before .args .k .code)))
 
 divisor-pos : (c : tie.After-power-of-ten) → 1 * 1 ≤ (c .before .before .args .k .divider + 1) * c .power-of-ten .result
 divisor-pos c =
-    mul-le-mul {n₁ = 1} {m₁ = 1} (omega arith) (omega (arith, c .power-of-ten .ensures, power-pos (c .before .before .args .k .code)))
+    mul-le-mul {n₁ = 1} {m₁ = 1} (omega arith) (omega (arith, c .power-of-ten .ensures, power-range (c .before .before .args .k .code)))
 
 product-le : (c : tie.After-struct-known2) → c .before .before .before .args .rpm * c .before .before .before .args .k .multiplier ≤ 4294967295 * 65535
 product-le c = mul-le-mul {n₂ = 4294967295} {m₂ = 65535} (search needs) (search needs)

@@ -1,1 +1,4 @@
+pub mod Ranges
 pub mod Advance
+pub mod Pairs
+pub mod Train

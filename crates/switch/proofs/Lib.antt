@@ -1,4 +1,5 @@
 pub mod Ranges
+pub mod Bits
 pub mod Advance
 pub mod Pairs
 pub mod Train

@@ -3,10 +3,11 @@
 use Prim.Native.Nat.{ℕ, _+_, _-_, _*_, _/_, _%_, min}
 use mathlib.Core.Bool.{Bool, cond, _&&_}
 use mathlib.Core.List.{List}
+use lib.Dec.{leb}
 use lib.ListN.{getD}
 use Rattle.rules.specs.Words.{someOf}
 use Rattle.rules.specs.Groups.{holds}
-use Rattle.rules.specs.Switches.{usedPair, timedSteps}
+use Rattle.rules.specs.Switches.{usedPair, pulseStart, timedSteps}
 
 -- |s| of an advance of `tenths` at `counts` in 120 steps, reduced mod SF
 unfoldable pub shiftCounts : ℕ → ℕ → ℕ → ℕ
@@ -34,3 +35,10 @@ lastPulse r q k at = min (q - 1) (((at + 1) * (q - 1) - 1) / (r - k))
 -- for how many steps a timed switch is on, this one included: T ms from where its pair began to hold
 unfoldable pub timedLeft : ℕ → Bool → Bool → ℕ → ℕ
 timedLeft t held before left = cond held (cond before (left - 1) (timedSteps t)) 0
+
+-- pulse j + 1 starts no later than where pulse j ends; some pulse does
+unfoldable pub touchesNext : ℕ → ℕ → ℕ → ℕ → Bool
+touchesNext r q k j = leb (pulseStart r q k (j + 1)) (pulseStart r q k j + k)
+
+unfoldable pub someTouch : ℕ → ℕ → ℕ → Bool
+someTouch r q k = someOf (q - 1) 0 (touchesNext r q k)

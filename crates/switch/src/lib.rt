@@ -1,13 +1,16 @@
 // Limit switches: a pair at a position, advances, normal, pulse and timed switches, and the checks of one limit block. `top` is the scale factor less one.
 
 ghost use mathlib.Core.Path.{_≡_};
-ghost use Prim.Native.Nat.{_+_};
+ghost use Prim.Native.Nat.{_+_, _-_};
+ghost use lib.IntN.{natAbs};
 ghost use lib.ListN.{getD};
 ghost use Rattle.rules.specs.Motion.{travelValue};
 ghost use Rattle.rules.specs.Groups as groups;
 ghost use Rattle.rules.specs.Switches.{advanceValue, moved, countAt, usedPair, pairHolds, normalHolds, pulseStart, pulseOn, pulseHolds, switchHolds};
+ghost use Rattle.rules.specs.Words.{signedWord};
+ghost use Rattle.rules.specs.Programming.{advanceOf, controlBad, advanceBad, pairBad, pulseBad, pulsesTouch};
 ghost use Rattle.rules.specs.Card.{timedAfter};
-ghost use Rattle.switch.specs.Parts.{shiftCounts, movedBy, pairAt, somePair, lastPulse, timedLeft};
+ghost use Rattle.switch.specs.Parts.{shiftCounts, movedBy, pairAt, somePair, lastPulse, timedLeft, someTouch};
 use rules::Advance;
 use rules::Limit;
 use rules::Position;
@@ -279,4 +282,105 @@ pub fn timed_after(s: Switch, held: bool, x: TimedState) -> TimedState
             left: timed_left(t, held, x.held, x.left),
         },
     }
+}
+
+// One less, and 0 at 0.
+fn one_less(n: u16) -> u16
+    ensures { λ r. ⌜ r ≡ n - 1 ⌝ }
+{
+    if n == 0 {
+        return 0;
+    }
+    n - 1
+}
+
+// ---- The checks of one limit block
+
+// The magnitude of a word read as two's complement.
+fn magnitude(w: u16) -> u16
+    ensures { λ r. ⌜ r ≡ natAbs (signedWord w) ⌝ }
+{
+    if 32768 <= w {
+        return 65535 - w + 1;
+    }
+    w
+}
+
+// Bit 2, advance: outside −999 to 999.
+fn advance_bad(w: u16) -> bool
+    ensures { λ r. ⌜ r ≡ advanceBad w ⌝ }
+{
+    999 < magnitude(w)
+}
+
+// Bit 1, control: detector or type 3, or one of bits 2 to 12 set.
+fn control_bad(w: u16) -> bool
+    ensures { λ r. ⌜ r ≡ controlBad w ⌝ }
+{
+    if w / 8192 % 4 == 3 {
+        return true;
+    }
+    if w % 4 == 3 {
+        return true;
+    }
+    w / 4 % 2048 != 0
+}
+
+// A setpoint out of range, or an equal pair that is not 0/0.
+pub fn pair_bad(top: u16, on: u16, off: u16) -> bool
+    ensures { λ r. ⌜ r ≡ pairBad (top + 1) on off ⌝ }
+{
+    if top < on {
+        return true;
+    }
+    if top < off {
+        return true;
+    }
+    if on == off {
+        return on != 0;
+    }
+    false
+}
+
+// Q or K 0 or, with bit 3 clear, R < Q × K + Q − 1.
+pub fn pulse_bad(bit3: bool, r: u16, q: u16, k: u16) -> bool
+    ensures { λ b. ⌜ b ≡ pulseBad bit3 r q k ⌝ }
+{
+    if q == 0 {
+        return true;
+    }
+    if k == 0 {
+        return true;
+    }
+    if bit3 {
+        return false;
+    }
+    (r as u32) < q as u32 * k as u32 + q as u32 - 1
+}
+
+// A pulse starts no later than where the one before it ends.
+fn some_touch(r: u16, q: u16, k: u16) -> bool
+    ensures { λ b. ⌜ b ≡ someTouch r q k ⌝ }
+{
+    let gaps = one_less(q);
+    let mut j: u16 = 0;
+    while j < gaps {
+        let start = pulse_start(r, q, k, j) as u64;
+        if pulse_start(r, q, k, j + 1) as u64 <= start + k as u64 {
+            return true;
+        }
+        j = j + 1;
+    }
+    false
+}
+
+// Two pulses touch, the first one after the last, round the turn, too.
+pub fn pulses_touch(top: u16, r: u16, q: u16, k: u16) -> bool
+    ensures { λ b. ⌜ b ≡ pulsesTouch (top + 1) r q k ⌝ }
+{
+    if some_touch(r, q, k) {
+        return true;
+    }
+    let start = pulse_start(r, q, k, one_less(q));
+    (top as u64) < start as u64 + k as u64
 }

@@ -3,3 +3,4 @@ pub mod Bits
 pub mod Advance
 pub mod Pairs
 pub mod Train
+pub mod Blocks

@@ -1,13 +1,14 @@
 -- The parts in which the code reckons what 01 says of a limit switch; proofs/ shows each to be the rule.
 -- Assumes nothing.
 use Prim.Native.Nat.{ℕ, _+_, _-_, _*_, _/_, _%_, min}
-use mathlib.Core.Bool.{Bool, cond, _&&_}
+use mathlib.Core.Bool.{Bool, false, cond, not, _&&_, _||_}
 use mathlib.Core.List.{List}
-use lib.Dec.{leb}
+use lib.Dec.{ltb, leb, eqb}
 use lib.ListN.{getD}
-use Rattle.rules.specs.Words.{someOf}
+use Rattle.rules.specs.Words.{someOf, table}
 use Rattle.rules.specs.Groups.{holds}
 use Rattle.rules.specs.Switches.{usedPair, pulseStart, timedSteps}
+use Rattle.rules.specs.Programming.{limitWord, controlType, blockUsed, blockLength, pulseBad, pulsesTouch}
 
 -- |s| of an advance of `tenths` at `counts` in 120 steps, reduced mod SF
 unfoldable pub shiftCounts : ℕ → ℕ → ℕ → ℕ
@@ -42,3 +43,28 @@ touchesNext r q k j = leb (pulseStart r q k (j + 1)) (pulseStart r q k j + k)
 
 unfoldable pub someTouch : ℕ → ℕ → ℕ → Bool
 someTouch r q k = someOf (q - 1) 0 (touchesNext r q k)
+
+-- the words of limit block n. A block is also a file that begins with it: block 0 of that file.
+unfoldable pub blockOf : List ℕ → ℕ → List ℕ
+blockOf file n = table 19 0 (limitWord file n)
+
+-- limit block n is of type timed
+unfoldable pub timedBlock : List ℕ → ℕ → Bool
+timedBlock file n = eqb (controlType (limitWord file n 0)) 2
+
+-- bit 4 of a block whose bit 3 is `bit3`
+unfoldable pub lengthBit : ℕ → Bool → Bool → List ℕ → Bool
+lengthBit sf fifth bit3 b =
+    cond (eqb (controlType (limitWord b 0 0)) 1)
+    (blockUsed b 0 && pulseBad bit3 (blockLength sf b 0) (limitWord b 0 5) (limitWord b 0 6))
+    (cond (eqb (controlType (limitWord b 0 0)) 2)
+    (fifth || (blockUsed b 0 && (eqb (limitWord b 0 5) 0 || ltb 9999 (limitWord b 0 5))))
+    false)
+
+-- bit 5 of a block; `barred` says that bit 3 or 4 is set
+unfoldable pub touchBit : ℕ → Bool → List ℕ → Bool
+touchBit sf barred b =
+    eqb (controlType (limitWord b 0 0)) 1
+    && blockUsed b 0
+    && not barred
+    && pulsesTouch sf (blockLength sf b 0) (limitWord b 0 5) (limitWord b 0 6)

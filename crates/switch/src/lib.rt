@@ -1,16 +1,18 @@
 // Limit switches: a pair at a position, advances, normal, pulse and timed switches, and the checks of one limit block. `top` is the scale factor less one.
 
+ghost use mathlib.Core.Bool.{false};
+ghost use mathlib.Core.List.{[], _∷_};
 ghost use mathlib.Core.Path.{_≡_};
-ghost use Prim.Native.Nat.{_+_, _-_};
+ghost use Prim.Native.Nat.{_+_, _-_, _*_};
 ghost use lib.IntN.{natAbs};
 ghost use lib.ListN.{getD};
 ghost use Rattle.rules.specs.Motion.{travelValue};
 ghost use Rattle.rules.specs.Groups as groups;
 ghost use Rattle.rules.specs.Switches.{advanceValue, moved, countAt, usedPair, pairHolds, normalHolds, pulseStart, pulseOn, pulseHolds, switchHolds};
-ghost use Rattle.rules.specs.Words.{signedWord};
-ghost use Rattle.rules.specs.Programming.{advanceOf, controlBad, advanceBad, pairBad, pulseBad, pulsesTouch};
+ghost use Rattle.rules.specs.Words.{bits, signedWord, someOf};
+ghost use Rattle.rules.specs.Programming.{limitWord, allZero, controlBad, advanceBad, pairBad, limitPairBad, setpointBad, fifthTimed, pulseBad, pulsesTouch, blockBits};
 ghost use Rattle.rules.specs.Card.{timedAfter};
-ghost use Rattle.switch.specs.Parts.{shiftCounts, movedBy, pairAt, somePair, lastPulse, timedLeft, someTouch};
+ghost use Rattle.switch.specs.Parts.{shiftCounts, movedBy, pairAt, somePair, lastPulse, timedLeft, someTouch, blockOf, timedBlock, lengthBit, touchBit};
 use rules::Advance;
 use rules::Limit;
 use rules::Position;
@@ -383,4 +385,80 @@ pub fn pulses_touch(top: u16, r: u16, q: u16, k: u16) -> bool
     }
     let start = pulse_start(r, q, k, one_less(q));
     (top as u64) < start as u64 + k as u64
+}
+
+// The word at a place of a file, 0 past its end.
+fn word_at(file: &[u16], at: usize) -> u16
+    ensures { λ r. ⌜ r ≡ getD (now (file .entry)) at 0 ⌝ }
+{
+    if at < file.len() {
+        return file[at];
+    }
+    0
+}
+
+// The place of limit block n.
+fn block_start(n: u16) -> usize
+    ensures { λ r. ⌜ r ≡ 19 * n - 17 ⌝ }
+{
+    if n == 0 {
+        return 0;
+    }
+    19 * n as usize - 17
+}
+
+// The nineteen words of limit block n.
+fn block(file: &[u16], n: u16) -> [u16; 19]
+    ensures { λ r. ⌜ r ≡ blockOf (now (file .entry)) n ⌝ }
+{
+    let start = block_start(n);
+    let mut words = [0u16; 19];
+    let mut left: usize = 19;
+    while 0 < left {
+        left = left - 1;
+        words[left] = word_at(file, start + left);
+    }
+    words
+}
+
+// A block, taken for a file that begins with it, is all zero.
+fn zero(b: [u16; 19]) -> bool
+    ensures { λ r. ⌜ r ≡ allZero b 0 ⌝ }
+{
+    let mut k: usize = 0;
+    while k < 19 {
+        if b[k] != 0 {
+            return false;
+        }
+        k = k + 1;
+    }
+    true
+}
+
+// All nineteen words of limit block n are 0.
+pub fn all_zero(file: &[u16], n: u16) -> bool
+    ensures { λ r. ⌜ r ≡ allZero (now (file .entry)) n ⌝ }
+{
+    zero(block(file, n))
+}
+
+// Limit block n is of type timed.
+fn timed_block(file: &[u16], n: u16) -> bool
+    ensures { λ r. ⌜ r ≡ timedBlock (now (file .entry)) n ⌝ }
+{
+    word_at(file, block_start(n)) % 4 == 2
+}
+
+// Output n, from 1, is at least the fifth timed of its kind: four of the lower ones of its sixteen are timed.
+pub fn fifth_timed(file: &[u16], n: u16) -> bool
+    ensures { λ r. ⌜ r ≡ fifthTimed (now (file .entry)) n ⌝ }
+{
+    let lower = one_less(n) % 16;
+    let mut count: u16 = 0;
+    let mut m = n - lower;
+    while m < n {
+        count = count + timed_block(file, m) as u16;
+        m = m + 1;
+    }
+    4 <= count
 }

@@ -47,9 +47,9 @@ pub byte-digit : (b : Bool) → boolByte b ≡ digit b
 byte-digit true = refl
 byte-digit false = refl
 
-pub digit-small : (b : Bool) → digit b ≤ 1
-digit-small true = omega arith
-digit-small false = omega arith
+pub byte-small : (b : Bool) → boolByte b ≤ 1
+byte-small true = omega arith
+byte-small false = omega arith
 
 or-true : (b : Bool) → (b || true) ≡ true
 or-true true = refl

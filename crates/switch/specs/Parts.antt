@@ -52,19 +52,21 @@ blockOf file n = table 19 0 (limitWord file n)
 unfoldable pub timedBlock : List ℕ → ℕ → Bool
 timedBlock file n = eqb (controlType (limitWord file n 0)) 2
 
+-- bit 4 of a timed block with duration `t`
+unfoldable pub durationBit : Bool → Bool → ℕ → Bool
+durationBit fifth used t = fifth || (used && (eqb t 0 || ltb 9999 t))
+
 -- bit 4 of a block whose bit 3 is `bit3`
 unfoldable pub lengthBit : ℕ → Bool → Bool → List ℕ → Bool
 lengthBit sf fifth bit3 b =
     cond (eqb (controlType (limitWord b 0 0)) 1)
     (blockUsed b 0 && pulseBad bit3 (blockLength sf b 0) (limitWord b 0 5) (limitWord b 0 6))
-    (cond (eqb (controlType (limitWord b 0 0)) 2)
-    (fifth || (blockUsed b 0 && (eqb (limitWord b 0 5) 0 || ltb 9999 (limitWord b 0 5))))
-    false)
+    (cond (eqb (controlType (limitWord b 0 0)) 2) (durationBit fifth (blockUsed b 0) (limitWord b 0 5)) false)
 
--- bit 5 of a block; `barred` says that bit 3 or 4 is set
-unfoldable pub touchBit : ℕ → Bool → List ℕ → Bool
-touchBit sf barred b =
+-- bit 5 of a block whose bits 3 and 4 are `bit3` and `bit4`
+unfoldable pub touchBit : ℕ → Bool → Bool → List ℕ → Bool
+touchBit sf bit3 bit4 b =
     eqb (controlType (limitWord b 0 0)) 1
     && blockUsed b 0
-    && not barred
+    && not (bit3 || bit4)
     && pulsesTouch sf (blockLength sf b 0) (limitWord b 0 5) (limitWord b 0 6)

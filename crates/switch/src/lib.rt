@@ -1,6 +1,6 @@
 // Limit switches: a pair at a position, advances, normal, pulse and timed switches, and the checks of one limit block. `top` is the scale factor less one.
 
-ghost use mathlib.Core.Bool.{false};
+ghost use mathlib.Core.Bool.{false, _||_};
 ghost use mathlib.Core.List.{[], _∷_};
 ghost use mathlib.Core.Path.{_≡_};
 ghost use Prim.Native.Nat.{_+_, _-_, _*_};
@@ -12,7 +12,7 @@ ghost use Rattle.rules.specs.Switches.{advanceValue, moved, countAt, usedPair, 
 ghost use Rattle.rules.specs.Words.{bits, signedWord, someOf};
 ghost use Rattle.rules.specs.Programming.{limitWord, allZero, controlBad, advanceBad, pairBad, limitPairBad, setpointBad, fifthTimed, pulseBad, pulsesTouch, blockBits};
 ghost use Rattle.rules.specs.Card.{timedAfter};
-ghost use Rattle.switch.specs.Parts.{shiftCounts, movedBy, pairAt, somePair, lastPulse, timedLeft, someTouch, blockOf, timedBlock, lengthBit, touchBit};
+ghost use Rattle.switch.specs.Parts.{shiftCounts, movedBy, pairAt, somePair, lastPulse, timedLeft, someTouch, blockOf, timedBlock, durationBit, lengthBit, touchBit};
 use rules::Advance;
 use rules::Limit;
 use rules::Position;
@@ -461,4 +461,119 @@ pub fn fifth_timed(file: &[u16], n: u16) -> bool
         m = m + 1;
     }
     4 <= count
+}
+
+// Some of the eight pairs of a normal switch's block is bad.
+fn some_pair_bad(top: u16, b: [u16; 19]) -> bool
+    ensures { λ r. ⌜ r ≡ someOf 8 0 (limitPairBad (top + 1) b 0) ⌝ }
+{
+    let mut k: usize = 0;
+    while k < 8 {
+        if pair_bad(top, b[2 * k + 3], b[2 * k + 4]) {
+            return true;
+        }
+        k = k + 1;
+    }
+    false
+}
+
+// Bit 3, setpoint: of a normal switch any of the eight pairs, of the others the first.
+fn setpoint_bad(top: u16, b: [u16; 19]) -> bool
+    ensures { λ r. ⌜ r ≡ setpointBad (top + 1) b 0 ⌝ }
+{
+    if b[0] % 4 == 0 {
+        return some_pair_bad(top, b);
+    }
+    pair_bad(top, b[3], b[4])
+}
+
+// Bit 4 of a timed switch: the fifth of its kind, or its duration.
+fn duration_bad(fifth: bool, used: bool, t: u16) -> bool
+    ensures { λ r. ⌜ r ≡ durationBit fifth used t ⌝ }
+{
+    if fifth {
+        return true;
+    }
+    if used {
+        if t == 0 {
+            return true;
+        }
+        return 9999 < t;
+    }
+    false
+}
+
+// Bit 4, where bit 3 is `bit3`: the length of a train, a timed switch's duration or number.
+fn length_bad(top: u16, fifth: bool, bit3: bool, b: [u16; 19]) -> bool
+    ensures { λ r. ⌜ r ≡ lengthBit (top + 1) fifth bit3 b ⌝ }
+{
+    let used = used_pair(b[3], b[4]);
+    if b[0] % 4 == 1 {
+        if used {
+            return pulse_bad(bit3, ahead(top, b[3], b[4]), b[5], b[6]);
+        }
+        return false;
+    }
+    if b[0] % 4 == 2 {
+        return duration_bad(fifth, used, b[5]);
+    }
+    false
+}
+
+// Bit 5, two pulses touch, tested where bits 3 and 4 are clear.
+fn touch_bad(top: u16, bit3: bool, bit4: bool, b: [u16; 19]) -> bool
+    ensures { λ r. ⌜ r ≡ touchBit (top + 1) bit3 bit4 b ⌝ }
+{
+    if b[0] % 4 != 1 {
+        return false;
+    }
+    if bit3 {
+        return false;
+    }
+    if bit4 {
+        return false;
+    }
+    if used_pair(b[3], b[4]) {
+        return pulses_touch(top, ahead(top, b[3], b[4]), b[5], b[6]);
+    }
+    false
+}
+
+// The word with these as its bits 1 to 5.
+fn word_of(bit1: bool, bit2: bool, bit3: bool, bit4: bool, bit5: bool) -> u16
+    ensures { λ r. ⌜ r ≡ bits (false ∷ bit1 ∷ bit2 ∷ bit3 ∷ bit4 ∷ bit5 ∷ []) ⌝ }
+{
+    2 * (bit1 as u16 + 2 * (bit2 as u16 + 2 * (bit3 as u16 + 2 * (bit4 as u16 + 2 * bit5 as u16))))
+}
+
+// Either of a block's two advances is bad.
+fn advances_bad(on: u16, off: u16) -> bool
+    ensures { λ r. ⌜ r ≡ (advanceBad on || advanceBad off) ⌝ }
+{
+    if advance_bad(on) {
+        return true;
+    }
+    advance_bad(off)
+}
+
+// Bits 1 to 5 of a block; of type 3 only 1 and 2 are tested.
+fn bits_of(top: u16, fifth: bool, b: [u16; 19]) -> u16
+    ensures { λ r. ⌜ r ≡ blockBits (top + 1) fifth b 0 ⌝ }
+{
+    let bit1 = control_bad(b[0]);
+    let bit2 = advances_bad(b[1], b[2]);
+    if b[0] % 4 == 3 {
+        return word_of(bit1, bit2, false, false, false);
+    }
+    let bit3 = setpoint_bad(top, b);
+    let bit4 = length_bad(top, fifth, bit3, b);
+    let bit5 = touch_bad(top, bit3, bit4, b);
+    word_of(bit1, bit2, bit3, bit4, bit5)
+}
+
+// Bits 1 to 5 of word 630 for limit block n; `fifth` says that the output is at least the fifth timed of its kind.
+pub fn block_bits(top: u16, fifth: bool, file: &[u16], n: u16) -> u16
+    ensures { λ r. ⌜ r ≡ blockBits (top + 1) fifth (now (file .entry)) n ⌝ }
+{
+    bits_of(top, fifth, block(file, n))
 }

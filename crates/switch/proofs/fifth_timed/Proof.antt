@@ -7,7 +7,7 @@ use lib.Dec.{leb}
 use Rattle.rules.specs.Words.{digit, countOf}
 use Rattle.rules.specs.Programming.{fifthTimed}
 use Rattle.switch.specs.Parts.{timedBlock}
-use Rattle.switch.proofs.Ranges.{count-turn, byte-digit, digit-small}
+use Rattle.switch.proofs.Ranges.{count-turn, byte-digit, byte-small}
 use Rattle.switch.proofs.fifth_timed.Statement.{statement}
 use Rattle.switch.proofs.fifth_timed.Tie as tie
 
@@ -34,7 +34,7 @@ cast-count : tie.Need-cast-count Inv-loop μ-loop
 cast-count c = tt
 
 add-count : tie.Need-add-count Inv-loop μ-loop
-add-count c = omega (arith, byte-digit (c .timed-block .result), digit-small (c .timed-block .result))
+add-count c = omega (arith, byte-small (c .timed-block .result))
 
 add-m : tie.Need-add-m Inv-loop μ-loop
 add-m c = omega arith
@@ -47,7 +47,7 @@ loop-again c =
     let l = c .before .before .loop in
     let x = c .before .before .before .before .before .args in
     let d = byte-digit (c .timed-block .result) ∙ ap (λ b. digit b) (c .timed-block .ensures) in
-    (omega arith, omega arith, omega (arith, byte-digit (c .timed-block .result), digit-small (c .timed-block .result)), omega (arith, l .inv .3, d, count-turn (x .n) (l .m) (timedBlock (x .file .now)) (omega arith)))
+    (omega arith, omega arith, omega (arith, byte-small (c .timed-block .result)), omega (arith, l .inv .3, d, count-turn (x .n) (l .m) (timedBlock (x .file .now)) (omega arith)))
 
 returns : tie.Need-returns Inv-loop μ-loop
 unfolding fifthTimed timedBlock countOf

@@ -1,13 +1,15 @@
 -- A limit block alone: what is said of block n of a file is said of its nineteen words, taken for a file whose block 0 they are.
 -- Assumes nothing.
-use Prim.Native.Nat.{ℕ}
-use mathlib.Core.Bool.{Bool, true, false, _||_}
+use Prim.Native.Nat.{ℕ, _-_}
+use mathlib.Core.Bool.{Bool, true, false, cond, not, _||_}
 use mathlib.Core.List.{List, [], _∷_}
 use mathlib.Core.Path.{_≡_, refl}
 use lib.Dec.{eqb}
+use Rattle.rules.specs.declared.Model.{Model}
 use Rattle.rules.specs.Words.{bits, someOf, eachOf, table}
-use Rattle.rules.specs.Programming.{limitWord, controlType, allZero, controlBad, advanceBad, limitPairBad, setpointBad, lengthBad, touchBad, blockBits}
-use Rattle.switch.specs.Parts.{blockOf, durationBit, lengthBit, touchBit}
+use Rattle.rules.specs.Switches.{present, noLimit}
+use Rattle.rules.specs.Programming.{limitWord, controlType, allZero, controlBad, advanceBad, limitPairBad, setpointBad, lengthBad, touchBad, blockBits, limitFrom}
+use Rattle.switch.specs.Parts.{blockOf, durationBit, lengthBit, touchBit, limitOfBlock}
 
 pub zero-alone : (file : List ℕ) (n : ℕ) → allZero (blockOf file n) 0 ≡ allZero file n
 unfolding allZero blockOf eachOf table
@@ -29,3 +31,8 @@ pub bits-of-other : (sf : ℕ) (fifth : Bool) (b : List ℕ) → eqb (controlTyp
     blockBits sf fifth b 0 ≡ bits (false ∷ controlBad (limitWord b 0 0) ∷ (advanceBad (limitWord b 0 1) || advanceBad (limitWord b 0 2)) ∷ bit3 ∷ bit4 ∷ touchBit sf bit3 bit4 b ∷ []))
 unfolding blockBits lengthBad touchBad lengthBit touchBit durationBit
 bits-of-other sf fifth b e = rw e
+
+pub limit-alone : (m : Model) (file : List ℕ) (n : ℕ) →
+    limitFrom m file n ≡ cond (not (present m (n - 1)) || allZero (blockOf file n) 0) noLimit (limitOfBlock (blockOf file n))
+unfolding limitFrom allZero blockOf limitOfBlock eachOf table
+limit-alone m file n = refl

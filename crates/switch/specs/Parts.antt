@@ -5,10 +5,11 @@ use mathlib.Core.Bool.{Bool, false, cond, not, _&&_, _||_}
 use mathlib.Core.List.{List}
 use lib.Dec.{ltb, leb, eqb}
 use lib.ListN.{getD}
-use Rattle.rules.specs.Words.{someOf, table}
+use Rattle.rules.specs.declared.Limit.{Limit}
+use Rattle.rules.specs.Words.{bit, someOf, table}
 use Rattle.rules.specs.Groups.{holds}
 use Rattle.rules.specs.Switches.{usedPair, pulseStart, timedSteps}
-use Rattle.rules.specs.Programming.{limitWord, controlType, blockUsed, blockLength, pulseBad, pulsesTouch}
+use Rattle.rules.specs.Programming.{limitWord, controlType, blockUsed, blockLength, pulseBad, pulsesTouch, controlDetector, switchOf, andedOf, advanceOf, setpointOf}
 
 -- |s| of an advance of `tenths` at `counts` in 120 steps, reduced mod SF
 unfoldable pub shiftCounts : ℕ → ℕ → ℕ → ℕ
@@ -70,3 +71,14 @@ touchBit sf bit3 bit4 b =
     && blockUsed b 0
     && not (bit3 || bit4)
     && pulsesTouch sf (blockLength sf b 0) (limitWord b 0 5) (limitWord b 0 6)
+
+-- the program that a block gives
+unfoldable pub limitOfBlock : List ℕ → Limit
+limitOfBlock b = record {
+  switch = switchOf b 0;
+  enable = bit (limitWord b 0 0) 15;
+  detector = andedOf (controlDetector (limitWord b 0 0));
+  onadvance = advanceOf (limitWord b 0 1);
+  offadvance = advanceOf (limitWord b 0 2);
+  setpoints = table 16 0 (setpointOf b 0);
+}

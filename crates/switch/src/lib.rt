@@ -6,15 +6,18 @@ ghost use mathlib.Core.Path.{_≡_};
 ghost use Prim.Native.Nat.{_+_, _-_, _*_};
 ghost use lib.IntN.{natAbs};
 ghost use lib.ListN.{getD};
-ghost use Rattle.rules.specs.Motion.{travelValue};
+ghost use Rattle.rules.specs.Motion.{realCount, travelValue};
 ghost use Rattle.rules.specs.Groups as groups;
+ghost use Rattle.rules.specs.Switches as switches;
 ghost use Rattle.rules.specs.Switches.{advanceValue, moved, countAt, usedPair, pairHolds, normalHolds, pulseStart, pulseOn, pulseHolds, switchHolds};
-ghost use Rattle.rules.specs.Words.{bits, signedWord, someOf};
-ghost use Rattle.rules.specs.Programming.{limitWord, allZero, controlBad, advanceBad, pairBad, limitPairBad, setpointBad, fifthTimed, pulseBad, pulsesTouch, blockBits};
+ghost use Rattle.rules.specs.Words.{bits, signedWord, someOf, table};
+ghost use Rattle.rules.specs.Programming.{limitWord, allZero, controlBad, advanceBad, pairBad, limitPairBad, setpointBad, fifthTimed, pulseBad, pulsesTouch, blockBits, advanceOf, andedOf, switchOf, setpointOf, limitFrom};
 ghost use Rattle.rules.specs.Card.{timedAfter};
-ghost use Rattle.switch.specs.Parts.{shiftCounts, movedBy, pairAt, somePair, lastPulse, timedLeft, someTouch, blockOf, timedBlock, durationBit, lengthBit, touchBit};
+ghost use Rattle.switch.specs.Parts.{shiftCounts, movedBy, pairAt, somePair, lastPulse, timedLeft, someTouch, blockOf, timedBlock, durationBit, lengthBit, touchBit, limitOfBlock};
 use rules::Advance;
+use rules::Anded;
 use rules::Limit;
+use rules::Model;
 use rules::Position;
 use rules::Switch;
 use rules::TimedState;
@@ -576,4 +579,121 @@ pub fn block_bits(top: u16, fifth: bool, file: &[u16], n: u16) -> u16
     ensures { λ r. ⌜ r ≡ blockBits (top + 1) fifth (now (file .entry)) n ⌝ }
 {
     bits_of(top, fifth, block(file, n))
+}
+
+// ---- The decoding of one limit block
+
+// The real outputs that a module has.
+fn real_count(m: Model) -> u16
+    ensures { λ r. ⌜ r ≡ realCount m ⌝ }
+{
+    match m {
+        Model::M8511 => 0,
+        Model::M8512 => 8,
+        Model::M8513 => 16,
+    }
+}
+
+// The module has output n, from 0.
+pub fn present(m: Model, n: u16) -> bool
+    ensures { λ r. ⌜ r ≡ switches.present m n ⌝ }
+{
+    if 16 <= n {
+        return true;
+    }
+    n < real_count(m)
+}
+
+// An advance word: two's complement, in tenths of a millisecond.
+fn advance_of(w: u16) -> Advance
+    ensures { λ r. ⌜ r ≡ advanceOf w ⌝ }
+{
+    Advance {
+        negative: 32768 <= w,
+        tenths: magnitude(w),
+    }
+}
+
+// The detector of a control word's bits 14 and 13.
+fn anded_of(d: u16) -> Anded
+    ensures { λ r. ⌜ r ≡ andedOf d ⌝ }
+{
+    if d == 1 {
+        return Anded::First;
+    }
+    if d == 2 {
+        return Anded::Second;
+    }
+    Anded::Neither
+}
+
+// The type of a block's switch, with what figure 5.9 puts after the pair.
+fn switch_of(b: [u16; 19]) -> Switch
+    ensures { λ r. ⌜ r ≡ switchOf b 0 ⌝ }
+{
+    if b[0] % 4 == 0 {
+        return Switch::Normal;
+    }
+    if b[0] % 4 == 1 {
+        return Switch::Pulse(b[5], b[6]);
+    }
+    if b[0] % 4 == 2 {
+        return Switch::Timed(b[5]);
+    }
+    Switch::Unprogrammed
+}
+
+// The sixteen setpoints of a normal switch; the first two of the others.
+fn setpoints_of(b: [u16; 19]) -> [u16; 16]
+    ensures { λ r. ⌜ r ≡ table 16 0 (setpointOf b 0) ⌝ }
+{
+    if b[0] % 4 != 0 {
+        return [b[3], b[4], 0, 0, 0, 0, 0, 0, 0, 0, 0, 0, 0, 0, 0, 0];
+    }
+    [
+        b[3],
+        b[4],
+        b[5],
+        b[6],
+        b[7],
+        b[8],
+        b[9],
+        b[10],
+        b[11],
+        b[12],
+        b[13],
+        b[14],
+        b[15],
+        b[16],
+        b[17],
+        b[18],
+    ]
+}
+
+// The program that a block gives.
+fn limit_of(b: [u16; 19]) -> Limit
+    ensures { λ r. ⌜ r ≡ limitOfBlock b ⌝ }
+{
+    Limit {
+        switch: switch_of(b),
+        enable: b[0] / 32768 % 2 == 1,
+        detector: anded_of(b[0] / 8192 % 4),
+        onadvance: advance_of(b[1]),
+        offadvance: advance_of(b[2]),
+        setpoints: setpoints_of(b),
+    }
+}
+
+// The program of output n, from 1, that a file gives; none where the output is missing or its block all zero.
+pub fn limit_from(m: Model, file: &[u16], n: u16) -> Limit
+    ensures { λ r. ⌜ r ≡ limitFrom m (now (file .entry)) n ⌝ }
+{
+    if present(m, one_less(n)) {
+        let b = block(file, n);
+        if zero(b) {
+            return Limit::NONE;
+        }
+        return limit_of(b);
+    }
+    Limit::NONE
 }

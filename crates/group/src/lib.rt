@@ -1,0 +1,222 @@
+// Groups: one group's step in its six modes, the checks of one group block, and the dealing of outputs. `top` is the scale factor less one.
+
+ghost use mathlib.Core.Path.{_≡_};
+ghost use mathlib.Core.Bool.{cond, not, _&&_, _||_};
+ghost use Prim.Native.Nat.{_+_, _%_};
+ghost use Rattle.rules.specs.Groups as groups;
+ghost use Rattle.rules.specs.Card as card;
+ghost use Rattle.group.specs.Step as steps;
+use rules::Event;
+use rules::Group;
+use rules::GroupPosition;
+use rules::GroupState;
+use rules::MachinePosition;
+use rules::Mode;
+use rules::Pair;
+
+// A group under a shift: its position, and whether its dwell holds there.
+struct Place {
+    pub shift: u16,
+    pub position: GroupPosition,
+    pub holds: bool,
+}
+
+// A group after a step, and the Group Position that the step leaves.
+pub struct GroupStep {
+    pub state: GroupState,
+    pub position: GroupPosition,
+}
+
+// (a + b) mod SF. In range one comparison and one subtraction, else the remainder.
+fn sum(top: u16, a: u16, b: u16) -> u16
+    ensures { λ r. ⌜ r ≡ (a + b) % (top + 1) ⌝ }
+{
+    let sf = top as u32 + 1;
+    let s = a as u32 + b as u32;
+    if s < sf {
+        return s as u16;
+    }
+    if s - sf < sf {
+        return (s - sf) as u16;
+    }
+    (s % sf) as u16
+}
+
+// From Machine Position to Group Position, by the group's offset or by the shift.
+pub fn group_position(top: u16, by: u16, m: MachinePosition) -> GroupPosition
+    ensures { λ r. ⌜ r ≡ groups.groupPosition (top + 1) by m ⌝ }
+{
+    GroupPosition(sum(top, m.0, by))
+}
+
+// The shift by which the position becomes the preset.
+pub fn preset_shift(top: u16, preset: u16, m: MachinePosition) -> u16
+    ensures { λ r. ⌜ r ≡ groups.presetShift (top + 1) preset m ⌝ }
+{
+    switch::ahead(top, m.0, preset)
+}
+
+// The dwell holds at a Group Position.
+pub fn dwell_holds(top: u16, d: Pair, p: GroupPosition) -> bool
+    ensures { λ r. ⌜ r ≡ groups.dwellHolds (top + 1) d p ⌝ }
+{
+    switch::holds(top, d.on, d.off, p.0)
+}
+
+// Modes 1 and 2: Machine Position plus a shift, which a taken edge presets.
+fn presets(mode: Mode) -> bool
+    ensures { λ r. ⌜ r ≡ groups.presets mode ⌝ }
+{
+    match mode {
+        Mode::Mode0 => false,
+        Mode::Mode1 => true,
+        Mode::Mode2 => true,
+        Mode::Mode3 => false,
+        Mode::Mode4 => false,
+        Mode::Mode5 => false,
+    }
+}
+
+// An edge is inactive to active.
+fn edge(before: bool, now: bool) -> bool
+    ensures { λ r. ⌜ r ≡ groups.edge before now ⌝ }
+{
+    now & !before
+}
+
+// The level that a group takes from its input.
+fn input_level(e: Event) -> bool
+    ensures { λ r. ⌜ r ≡ e .level ⌝ }
+{
+    e.level
+}
+
+// A stop: an update with rpm 0.
+fn stops(e: Event) -> bool
+    ensures { λ r. ⌜ r ≡ groups.stops e ⌝ }
+{
+    e.update & (e.rpm == 0)
+}
+
+// What makes a step in the dwell a qualifying one: input active, rpm not 0.
+fn running(e: Event) -> bool
+    ensures { λ r. ⌜ r ≡ groups.running e ⌝ }
+{
+    input_level(e) & !(e.rpm == 0)
+}
+
+// Group Position where the shift is `shift`.
+fn position_by(top: u16, g: Group, shift: u16, m: MachinePosition) -> GroupPosition
+    ensures { λ r. ⌜ r ≡ card.positionBy (top + 1) g shift m ⌝ }
+{
+    let mode = g.mode;
+    if presets(mode) {
+        return group_position(top, shift, m);
+    }
+    group_position(top, g.offset, m)
+}
+
+// A group's place where the shift is `shift`; the only test of its dwell.
+fn place_by(top: u16, g: Group, shift: u16, m: MachinePosition) -> Place
+    ensures { λ r. ⌜ r ≡ steps.placeAt (top + 1) g shift m ⌝ }
+{
+    let p = position_by(top, g, shift, m);
+    Place {
+        shift: shift,
+        position: p,
+        holds: dwell_holds(top, g.dwell, p),
+    }
+}
+
+// An edge is taken if none was since group start, or a dwell has begun since the last taken one.
+fn takes(mode: Mode, x: GroupState, edge: bool, begins: bool) -> bool
+    ensures { λ r. ⌜ r ≡ (groups.presets mode && edge && (not (x .taken) || begins || x .begun)) ⌝ }
+{
+    presets(mode) & edge & (!x.taken | begins | x.begun)
+}
+
+// The place at the step's end: a taken edge sets the position to the preset, and the dwell is judged anew.
+fn end_place(top: u16, g: Group, m: MachinePosition, takes: bool, start: Place) -> Place
+    ensures { λ r. ⌜ r ≡ cond takes (steps.placeAt (top + 1) g (groups.presetShift (top + 1) (g .offset) m) m) start ⌝ }
+{
+    if takes {
+        return place_by(top, g, preset_shift(top, g.offset, m), m);
+    }
+    start
+}
+
+// What a dwell's beginning ends and `sets` brings about, the beginning first.
+fn since_dwell(sets: bool, begins: bool, before: bool) -> bool
+    ensures { λ r. ⌜ r ≡ (sets || (not begins && before)) ⌝ }
+{
+    sets | (!begins & before)
+}
+
+// Mode 5: a stop closes, and an edge of the First Cycle Input in its step does not count.
+fn stop_first_cycle(stop: bool, qualifying: bool, edge: bool, kept: bool) -> bool
+    ensures { λ r. ⌜ r ≡ (not stop && (qualifying || edge || kept)) ⌝ }
+{
+    !stop & (qualifying | edge | kept)
+}
+
+// Openness of Modes 2, 4 and 5; the others keep none.
+fn opened_in(mode: Mode, two: bool, four: bool, five: bool) -> bool
+    ensures { λ r. ⌜ r ≡ steps.openedIn mode two four five ⌝ }
+{
+    match mode {
+        Mode::Mode0 => false,
+        Mode::Mode1 => false,
+        Mode::Mode2 => two,
+        Mode::Mode3 => false,
+        Mode::Mode4 => four,
+        Mode::Mode5 => five,
+    }
+}
+
+// A group is open: always in Modes 0 and 1, while its input is active in Mode 3, by what came before in the others.
+pub fn is_open(mode: Mode, level: bool, opened: bool) -> bool
+    ensures { λ r. ⌜ r ≡ groups.isOpen mode level opened ⌝ }
+{
+    match mode {
+        Mode::Mode0 => true,
+        Mode::Mode1 => true,
+        Mode::Mode2 => opened,
+        Mode::Mode3 => level,
+        Mode::Mode4 => opened,
+        Mode::Mode5 => opened,
+    }
+}
+
+// A group's step.
+pub fn group_step(top: u16, g: Group, x: GroupState, e: Event) -> GroupStep
+    ensures { λ r. ⌜ (r .state ≡ card.groupAfter (top + 1) g x e) × (r .position ≡ card.positionNow (top + 1) g x e) ⌝ }
+{
+    let mode = g.mode;
+    let level = input_level(e);
+    let edge_now = edge(x.level, level);
+    let before = place_by(top, g, x.shift, e.machine);
+    let begins = before.holds & !x.held;
+    let taken = takes(mode, x, edge_now, begins);
+    let end = end_place(top, g, e.machine, taken, before);
+    let qualifying = end.holds & running(e);
+    let qualified = since_dwell(qualifying, begins, x.qualified);
+    let two = since_dwell(taken, begins, x.opened);
+    let four = since_dwell(end.holds & edge_now, begins, x.opened);
+    let first = edge(x.first, e.first) & qualified;
+    let five = stop_first_cycle(stops(e), qualifying, first, !begins & x.opened);
+    let state = GroupState {
+        level: level,
+        first: e.first,
+        held: end.holds,
+        shift: end.shift,
+        taken: taken | x.taken,
+        begun: !taken & (begins | x.begun),
+        qualified: qualified,
+        opened: opened_in(mode, two, four, five),
+    };
+    let position = end.position;
+    GroupStep {
+        state: state,
+        position: position,
+    }
+}

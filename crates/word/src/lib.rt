@@ -1,0 +1,111 @@
+// Words of 16 bits and files of words: what the readers and writers of the card's files, inputs and outputs are made of.
+
+ghost use mathlib.Core.Path.{_≡_};
+ghost use mathlib.Core.Bool.{false, not, cond};
+ghost use Prim.Native.Nat.{_+_};
+ghost use lib.Dec.{leb};
+ghost use lib.ListN.{length, getD};
+ghost use Rattle.rules.specs.Words as words;
+ghost use Rattle.word.specs.Layout.{named};
+
+// A word in which 01 names some bits and the others are reserved: the setup command, the group and limit commands, a group's and a limit
+// switch's control word.
+pub enum Layout {
+    SetupCommand,
+    Command,
+    GroupControl,
+    LimitControl,
+}
+
+// Bit n of a word.
+pub fn bit(w: u16, n: u16) -> bool
+    ensures { λ r. ⌜ r ≡ words.bit w n ⌝ }
+{
+    if 16 <= n {
+        return false;
+    }
+    (w >> n) % 2 == 1
+}
+
+// The reserved bits of a word, all set.
+fn reserved(layout: Layout) -> u16
+    ensures { λ r. ⌜ r ≡ words.wordOf 0 (λ n. not (words.oneOf (named layout) n)) ⌝ }
+{
+    match layout {
+        Layout::SetupCommand => 0x7ccc,
+        Layout::Command => 0x7ffe,
+        Layout::GroupControl => 0x18e0,
+        Layout::LimitControl => 0x1ffc,
+    }
+}
+
+// Some reserved bit of a word is set.
+pub fn other_bit(w: u16, layout: Layout) -> bool
+    ensures { λ r. ⌜ r ≡ words.otherBit (named layout) w ⌝ }
+{
+    reserved(layout) & w != 0
+}
+
+// The word whose bit n is answer n.
+pub fn packed(answers: [bool; 16]) -> u16
+    ensures { λ r. ⌜ r ≡ words.wordOf 0 (λ n. getD answers n false) ⌝ }
+{
+    let mut w: u16 = 0;
+    let mut left: usize = 16;
+    while 0 < left {
+        left = left - 1;
+        w = w * 2 + answers[left] as u16;
+    }
+    w
+}
+
+// How many of sixteen outputs changed.
+pub fn changes(old: u16, new: u16) -> u16
+    ensures { λ r. ⌜ r ≡ words.differing old new ⌝ }
+{
+    u16::count_ones(old ^ new) as u16
+}
+
+// The word at a place of a file; 0 past its end.
+pub fn word_at(file: &[u16], n: usize) -> u16
+    ensures { λ r. ⌜ r ≡ words.word (now (file .entry)) n ⌝ }
+{
+    if n < file.len() {
+        return file[n];
+    }
+    0
+}
+
+// Some word of a file from the first to the last place is not 0.
+pub fn any_word(file: &[u16], from: usize, to: usize) -> bool
+    ensures { λ r. ⌜ r ≡ words.anyWord from to (now (file .entry)) ⌝ }
+{
+    let mut at = from;
+    while at < file.len() {
+        if to < at {
+            return false;
+        }
+        if file[at] != 0 {
+            return true;
+        }
+        at = at + 1;
+    }
+    false
+}
+
+// The words stored into a file from a place on; a file that ends before their end stays as it is.
+pub fn store(file: &mut [u16], at: usize, words: &[u16])
+    ensures { λ r. ⌜ now (file .exit) ≡ cond (leb (at + length (now (words .entry))) (length (now (file .entry)))) (Rattle.rules.specs.Words.storedAt at (now (words .entry)) (now (file .entry))) (now (file .entry)) ⌝ }
+{
+    if file.len() < at {
+        return;
+    }
+    if file.len() - at < words.len() {
+        return;
+    }
+    let mut k: usize = 0;
+    while k < words.len() {
+        file[at + k] = words[k];
+        k = k + 1;
+    }
+}

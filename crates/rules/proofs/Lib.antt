@@ -1,2 +1,4 @@
 pub mod Laws
 pub mod Cases
+pub mod Past
+pub mod Stretch

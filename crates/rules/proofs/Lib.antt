@@ -2,3 +2,5 @@ pub mod Laws
 pub mod Cases
 pub mod Past
 pub mod Stretch
+pub mod GroupPast
+pub mod Timed

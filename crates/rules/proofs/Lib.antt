@@ -4,3 +4,4 @@ pub mod Past
 pub mod Stretch
 pub mod GroupPast
 pub mod Timed
+pub mod Windows

@@ -5,3 +5,4 @@ pub mod Stretch
 pub mod GroupPast
 pub mod Timed
 pub mod Windows
+pub mod Cycles

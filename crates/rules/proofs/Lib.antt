@@ -6,3 +6,4 @@ pub mod GroupPast
 pub mod Timed
 pub mod Windows
 pub mod Cycles
+pub mod Packing

@@ -7,3 +7,5 @@ pub mod Timed
 pub mod Windows
 pub mod Cycles
 pub mod Packing
+pub mod Programs
+pub mod Agreement

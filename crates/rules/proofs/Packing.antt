@@ -52,3 +52,7 @@ module _ {A : Type 0} where
   getD-table zero i f d k h = absurd (omega arith)
   getD-table (suc n) i f d zero h = let e : i + 0 ≡ i = omega arith in rw e
   getD-table (suc n) i f d (suc k) h = let j : i + 1 + k ≡ i + suc k = omega arith in getD-table n (i + 1) f d k (omega arith) ∙ ap f j
+
+  -- of a table from 0 on
+  pub getD-table-0 : (n : ℕ) (f : ℕ → A) (d : A) (k : ℕ) → k < n → getD (table n 0 f) k d ≡ f k
+  getD-table-0 n f d k h = getD-table n 0 f d k h ∙ ap f (omega arith)

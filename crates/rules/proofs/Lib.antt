@@ -9,3 +9,4 @@ pub mod Cycles
 pub mod Packing
 pub mod Programs
 pub mod Agreement
+pub mod Theorem

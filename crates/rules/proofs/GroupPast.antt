@@ -5,6 +5,7 @@ use mathlib.Core.Path.{_≡_, refl, sym, ap, _∙_}
 use mathlib.Core.Bool.{Bool, true, false, cond, not, _&&_, _||_, or-false, and-false, and-self-left, true≢false}
 use mathlib.Core.List.{List, [], _∷_}
 use mathlib.Core.Option.{Option, none, some}
+use native.Mathlib.Omega.{arith}
 use native.Mathlib.Nat.{add-zero, mod-eq-of-lt, add-mod-mod, add-left-comm}
 use lib.Dec.{eqb}
 use borrow.Author.Tests.{not-true}
@@ -20,7 +21,7 @@ use Rattle.rules.specs.Groups.{ahead, groupPosition, dwellHolds, presetS
 use Rattle.rules.specs.Card.{positionBy, beginsNow, takesNow, shiftNow, positionNow, heldNow, qualifiedNow, openedNow, groupAfter, freshGroup}
 use Rattle.rules.specs.Quant.{exists, afterEach, noLater, latestSaw}
 use Rattle.rules.specs.History.{GroupStep, PastStep, beginsAt, takesAt, levelAt, firstAt, edgeAt, firstEdgeAt, stopAt, runningAt, lastTaken, presetPosition, positionFrom, positionAt, dwellAt, begins, takes, pastOf, latestDwellSaw, qualifiesAt, countsAt, openAt}
-use Rattle.rules.proofs.Laws.{ahead-natural}
+use Rattle.rules.proofs.Laws.{ahead-natural, ahead-below}
 use Rattle.rules.proofs.Past.{both, none-of, all-of, Moment, now, back, after-step, later-step}
 use Rattle.rules.proofs.Stretch.{Lawful, saw-step}
 
@@ -30,6 +31,11 @@ use Rattle.rules.proofs.Stretch.{Lawful, saw-step}
 pub shiftOf : ℕ → Option PastStep → ℕ
 shiftOf sf none = 0
 shiftOf sf (some s) = presetShift sf (s .program .offset) (s .event .machine)
+
+pub shift-below : (t : ℕ) (o : Option PastStep) → shiftOf (t + 1) o < t + 1
+unfolding shiftOf presetShift
+shift-below t none = omega arith
+shift-below t (some s) = ahead-below t (s .event .machine .0) (s .program .offset)
 
 -- Machine Position plus the shift is the preset plus the travel
 preset-travel : (t m from preset : ℕ) → (m + ahead (t + 1) from preset) % (t + 1) ≡ (preset + ahead (t + 1) from m) % (t + 1)

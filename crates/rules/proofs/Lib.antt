@@ -10,3 +10,5 @@ pub mod Packing
 pub mod Programs
 pub mod Agreement
 pub mod Theorem
+pub mod Ranges
+pub mod Reachable

@@ -185,12 +185,12 @@ short-some = lit< tt
 short-small : shortSteps ≤ 2520
 short-small = lit≤ tt
 
-long-some : (fast : Bool) → 0 < windowSteps fast
+pub long-some : (fast : Bool) → 0 < windowSteps fast
 unfolding windowSteps
 long-some true = lit< tt
 long-some false = lit< tt
 
-long-small : (fast : Bool) → windowSteps fast ≤ 2520
+pub long-small : (fast : Bool) → windowSteps fast ≤ 2520
 unfolding windowSteps
 long-small true = lit≤ tt
 long-small false = lit≤ tt

@@ -12,3 +12,4 @@ pub mod Agreement
 pub mod Theorem
 pub mod Ranges
 pub mod Reachable
+pub mod Reading

@@ -13,3 +13,4 @@ pub mod Theorem
 pub mod Ranges
 pub mod Reachable
 pub mod Reading
+pub mod Runs

@@ -1,11 +1,11 @@
 -- Runs computed of the history's definitions, whole cards where the run is short; the theorem makes them runs of the card. They rule out that both sides
 -- are dark, and show what 01 names as easy to mistake. Assumes nothing.
-use Prim.Native.Nat.{ℕ, zero, suc, _+_}
+use Prim.Native.Nat.{ℕ, zero, suc}
 use mathlib.Core.Path.{_≡_, refl, _∙_}
 use mathlib.Core.Bool.{Bool, true, false, xor}
 use mathlib.Core.List.{List, [], _∷_, map}
 use lib.ListN.{replicate}
-use lib.IntN.{ℤ, pos}
+use lib.IntN.{pos}
 use Rattle.rules.specs.declared.Model.the-variants.{M8513}
 use Rattle.rules.specs.declared.IoType.the-variants.{Virtual}
 use Rattle.rules.specs.declared.Mode.{Mode}

@@ -1,6 +1,6 @@
 -- A group's state is its past: each field of the state says what History says of the group's steps since its start, and goes on so by a step.
 -- Assumes nothing.
-use Prim.Native.Nat.{ℕ, _+_, _-_, _%_, _<_}
+use Prim.Native.Nat.{ℕ, _+_, _%_, _<_}
 use mathlib.Core.Path.{_≡_, refl, sym, ap, _∙_}
 use mathlib.Core.Bool.{Bool, true, false, cond, not, _&&_, _||_, or-false, and-false, and-self-left, true≢false}
 use mathlib.Core.List.{List, [], _∷_}
@@ -10,19 +10,18 @@ use native.Mathlib.Nat.{add-zero, mod-eq-of-lt, add-mod-mod, add-left-comm}
 use lib.Dec.{eqb}
 use borrow.Author.Tests.{not-true}
 use Rattle.rules.specs.declared.MachinePosition.{MachinePosition}
-use Rattle.rules.specs.declared.GroupPosition.{GroupPosition}
 use Rattle.rules.specs.declared.Mode.{Mode}
 use Rattle.rules.specs.declared.Mode.the-variants.{Mode0, Mode1, Mode2, Mode3, Mode4, Mode5}
 use Rattle.rules.specs.declared.Group.{Group}
 use Rattle.rules.specs.declared.GroupState.{GroupState}
 use Rattle.rules.specs.declared.Event.{Event}
 use Rattle.rules.specs.Motion.{isStop}
-use Rattle.rules.specs.Groups.{ahead, groupPosition, dwellHolds, presetShift, presets, edge, stops, running, isOpen}
+use Rattle.rules.specs.Groups.{ahead, groupPosition, presetShift, presets, edge, stops, running, isOpen}
 use Rattle.rules.specs.Card.{positionBy, beginsNow, takesNow, shiftNow, positionNow, heldNow, qualifiedNow, openedNow, groupAfter, freshGroup}
 use Rattle.rules.specs.Quant.{exists, afterEach, noLater, latestSaw}
-use Rattle.rules.specs.History.{GroupStep, PastStep, beginsAt, takesAt, levelAt, firstAt, edgeAt, firstEdgeAt, stopAt, runningAt, lastTaken, presetPosition, positionFrom, positionAt, dwellAt, begins, takes, pastOf, latestDwellSaw, qualifiesAt, countsAt, openAt}
+use Rattle.rules.specs.History.{GroupStep, PastStep, beginsAt, takesAt, levelAt, firstAt, edgeAt, firstEdgeAt, stopAt, runningAt, lastTaken, presetPosition, positionFrom, positionAt, dwellAt, begins, takes, latestDwellSaw, qualifiesAt, countsAt, openAt}
 use Rattle.rules.proofs.Laws.{ahead-natural, ahead-below}
-use Rattle.rules.proofs.Past.{both, none-of, all-of, Moment, now, back, after-step, later-step}
+use Rattle.rules.proofs.Past.{both, none-of, all-of, now, after-step, later-step}
 use Rattle.rules.proofs.Stretch.{Lawful, saw-step}
 
 -- ---- Positions

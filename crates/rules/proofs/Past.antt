@@ -2,14 +2,13 @@
 -- Assumes nothing.
 use mathlib.Core.Path.{_≡_, refl, sym, ap, _∙_}
 use mathlib.Core.Logic.{_⊎_, inl, inr, ⊎-elim}
-use mathlib.Core.Bool.{Bool, true, false, cond, not, _&&_, _||_, true≢false, false≢true, or-true}
+use mathlib.Core.Bool.{Bool, true, false, not, _&&_, _||_, true≢false, false≢true}
 use mathlib.Core.List.{List, [], _∷_}
-use Prim.Native.Nat.{ℕ, suc, _≤_, _<_}
+use Prim.Native.Nat.{_≤_, _<_}
 use native.Mathlib.Omega.{arith}
 use lib.ListN.{length}
-use lib.Dec.{ltb, leb}
-use borrow.Author.Tests.{ltb-true, leb-true, lt-ltb, le-leb, le-ltb, not-true}
-use Rattle.rules.specs.Quant.{_⇒_, exists, every, before, upto, afterEach, noLater}
+use borrow.Author.Tests.{ltb-true, lt-ltb, not-true}
+use Rattle.rules.specs.Quant.{_⇒_, exists, every, afterEach, noLater}
 
 -- ---- tests
 

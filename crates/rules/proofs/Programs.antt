@@ -12,11 +12,11 @@ use Rattle.rules.specs.declared.Programming.{Programming}
 use Rattle.rules.specs.Words.{bit, table}
 use Rattle.rules.specs.Motion.{scaleFactor}
 use Rattle.rules.specs.Switches.{limitOf}
-use Rattle.rules.specs.Programming.{isAccepted, noPrograms, defaultSetup, freshConfiguration, setupErrors, setupOf, withSetup, setupCycle, groupErrors, groupOf, withGroups, groupCycle, limitErrors, limitFrom, withLimits, limitCycle, nudgeOutput, nudgePair, nudgeOutputBad, nudgeSetpointBad, nudgedProgramming, nudgeCycle}
+use Rattle.rules.specs.Programming.{noPrograms, defaultSetup, freshConfiguration, setupErrors, setupOf, withSetup, groupErrors, groupOf, withGroups, limitErrors, limitFrom, withLimits, nudgeOutput, nudgePair, nudgeOutputBad, nudgeSetpointBad, nudgedProgramming}
 use Rattle.rules.specs.Calls.{Call, Step, SetupCall, GroupCall, LimitCall, NudgeCall, configurationAfter}
 use Rattle.rules.specs.History.{configurationOf, programmingOf}
 use Rattle.rules.proofs.Packing.{length-table}
-use Rattle.rules.proofs.Cycles.{Leaves, setup-leaves, group-leaves, limit-leaves, nudge-leaves, nudged, nudgePasses, step-model, step-programming}
+use Rattle.rules.proofs.Cycles.{setup-leaves, group-leaves, limit-leaves, nudge-leaves, nudged, nudgePasses, step-model, step-programming}
 
 -- no call changes the model
 pub model-is : (m : Model) (l : List Call) → configurationOf m l .model ≡ m

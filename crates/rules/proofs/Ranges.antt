@@ -1,29 +1,29 @@
 -- What an accepted cycle's checks leave: SF from 2 to 1024, and preset, offsets, dwells and setpoints below SF, after every list of calls.
 -- Assumes nothing.
 use Prim.Native.Nat.{ℕ, zero, suc, _+_, _-_, _*_, _/_, _%_, _≤_, _<_}
-use mathlib.Core.Path.{_≡_, refl, sym, ap, subst, _∙_}
-use mathlib.Core.Bool.{Bool, true, false, cond, not, _&&_, _||_, true≢false, false≢true}
+use mathlib.Core.Path.{_≡_, refl, ap, subst, _∙_}
+use mathlib.Core.Bool.{Bool, true, false, cond, not, _&&_, _||_, true≢false}
 use mathlib.Core.List.{List, [], _∷_}
 use native.Mathlib.Omega.{arith}
 use lib.ListN.{getD, set, replicate}
 use lib.Dec.{ltb, leb, eqb, lit<, lit≤}
 use lib.IntN.{subℕ}
-use borrow.Author.Tests.{ltb-true, ltb-false, leb-false, eqb-true, eqb-false, not-true, not-false, lt-ltb}
+use borrow.Author.Tests.{ltb-true, ltb-false, leb-false, eqb-true, eqb-false, not-true, not-false}
 use Rattle.rules.specs.declared.Model.{Model}
 use Rattle.rules.specs.declared.Setup.{Setup}
 use Rattle.rules.specs.declared.Group.{Group}
 use Rattle.rules.specs.declared.Limit.{Limit}
 use Rattle.rules.specs.declared.Programming.{Programming}
-use Rattle.rules.specs.Words.{word, bit, digit, bits, someOf, lowestOf, table, modulo}
+use Rattle.rules.specs.Words.{word, bit, digit, bits, someOf, lowestOf, table}
 use Rattle.rules.specs.Motion.{scaleFactor, scaledPosition, turned}
 use Rattle.rules.specs.Groups.{noGroup, groupAt}
 use Rattle.rules.specs.Switches.{onSetpoint, offSetpoint, usedPair, noLimit, pastLimits, limitOf, ownerOf, present}
-use Rattle.rules.specs.Programming.{noPrograms, defaultSetup, setupErrors, setupReserved, sfBad, sfJudged, detectorBad, scalarsBad, presetOffset, setupOf, withSetup, groupWord, groupOf, pairBad, groupProgramBad, groupBits, groupReserved, failingGroup, groupErrors, withGroups, limitWord, controlDetector, controlType, allZero, setpointOf, limitFrom, controlBad, advanceBad, limitPairBad, setpointBad, fifthTimed, lengthBad, touchBad, blockBits, limitBits, limitReserved, failingLimit, limitErrors, withLimits, nudgeOutput, nudgePair, nudgeOutputBad, nudgedIf, resultBad, leavesRange, nudgeFails, nudgeSetpointBad, nudgedLimit, nudgedProgramming}
+use Rattle.rules.specs.Programming.{noPrograms, defaultSetup, setupErrors, sfBad, sfJudged, detectorBad, scalarsBad, presetOffset, setupOf, withSetup, groupWord, groupOf, pairBad, groupProgramBad, groupBits, groupReserved, failingGroup, groupErrors, withGroups, limitWord, controlDetector, controlType, allZero, setpointOf, limitFrom, controlBad, advanceBad, limitPairBad, setpointBad, fifthTimed, lengthBad, touchBad, blockBits, limitBits, limitReserved, failingLimit, limitErrors, withLimits, nudgeOutput, nudgePair, nudgeOutputBad, nudgedIf, resultBad, leavesRange, nudgeFails, nudgeSetpointBad, nudgedLimit, nudgedProgramming}
 use Rattle.rules.specs.Calls.{Call}
 use Rattle.rules.specs.History.{programmingOf}
 use Rattle.rules.proofs.Laws.{modulo-below}
 use Rattle.rules.proofs.Past.{both, by}
-use Rattle.rules.proofs.Programs.{Keeps, always, with-setup}
+use Rattle.rules.proofs.Programs.{always, with-setup}
 
 -- ---- Tests that fail
 

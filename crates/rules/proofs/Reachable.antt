@@ -1,7 +1,7 @@
 -- Every module that a card can hold: for each list of calls from power-up no sum or count of the state machine runs over, and setpoints, offsets, presets
 -- and shifts are below SF. So what Card says of other modules (a sum modulo 2^32) no card meets. Assumes nothing.
-use Prim.Native.Nat.{ℕ, _+_, _-_, _%_, _^_, _≤_, _<_}
-use mathlib.Core.Path.{_≡_, refl, sym, ap, subst, _∙_}
+use Prim.Native.Nat.{ℕ, _+_, _-_, _^_, _≤_, _<_}
+use mathlib.Core.Path.{_≡_}
 use mathlib.Core.Bool.{Bool, true, false, cond}
 use mathlib.Core.List.{List}
 use native.Mathlib.Nat.{mod-eq-of-lt}
@@ -10,7 +10,6 @@ use lib.Dec.{lit<, lit≤}
 use Rattle.rules.specs.declared.Model.{Model}
 use Rattle.rules.specs.declared.Switch.the-variants.{Timed}
 use Rattle.rules.specs.declared.Programming.{Programming}
-use Rattle.rules.specs.declared.Configuration.{Configuration}
 use Rattle.rules.specs.declared.Window.{Window}
 use Rattle.rules.specs.declared.State.{State}
 use Rattle.rules.specs.declared.Module.{Module}
@@ -22,9 +21,9 @@ use Rattle.rules.specs.Run.{run}
 use Rattle.rules.specs.History.{configurationOf, sinceModuleStart, sinceGroupStart, sinceLimitStart, lastTaken, pastOf, movements, heldAt}
 use Rattle.rules.proofs.GroupPast.{shift-below}
 use Rattle.rules.proofs.Timed.{passedOf}
-use Rattle.rules.proofs.Windows.{WindowLink, steps-below, sum-fits, biased-below, long-some, long-small}
+use Rattle.rules.proofs.Windows.{steps-below, sum-fits, biased-below, long-some, long-small}
 use Rattle.rules.proofs.Ranges.{Within, ranges}
-use Rattle.rules.proofs.Agreement.{configuration-is, Agrees, agrees}
+use Rattle.rules.proofs.Agreement.{configuration-is, agrees}
 
 -- a window of so many steps: its count is below them, and its sum with a movement more, whatever q comes, fits 32 bits
 pub record WindowWithin (size : ℕ) (w : Window) (next : ℕ → ℕ) : Type 0 where

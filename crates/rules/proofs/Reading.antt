@@ -1,20 +1,19 @@
 -- How the history reads: for each quantifier the proposition that its test says, and 01's sentences on groups and timed switches as such propositions.
 -- `Moment j h`: j is the past h as it stood at one of its steps; of two moments the longer is the later. Assumes nothing.
-use Prim.Native.Nat.{ℕ, _+_, _%_, _≤_, _<_}
+use Prim.Native.Nat.{ℕ, _+_, _%_, _<_}
 use mathlib.Core.Path.{_≡_, refl, subst}
 use mathlib.Core.Logic.{_↔_}
 use mathlib.Core.Bool.{Bool, true, false, cond, not, _&&_, _||_}
 use mathlib.Core.List.{List, [], _∷_}
-use mathlib.Core.Option.{Option, none, some, Option·some-injective, Option·none-ne-some, Option·some-ne-none}
+use mathlib.Core.Option.{none, some, Option·some-injective, Option·none-ne-some, Option·some-ne-none}
 use native.Mathlib.Omega.{arith}
 use lib.ListN.{length}
-use Rattle.rules.specs.declared.MachinePosition.{MachinePosition}
-use Rattle.rules.specs.declared.Mode.the-variants.{Mode0, Mode1, Mode2, Mode3, Mode4, Mode5}
+use Rattle.rules.specs.declared.Mode.the-variants.{Mode2, Mode3, Mode4, Mode5}
 use Rattle.rules.specs.declared.Switch.the-variants.{Timed}
 use Rattle.rules.specs.Groups.{ahead, presets, dwellHolds, groupPosition}
 use Rattle.rules.specs.Switches.{timedSteps}
 use Rattle.rules.specs.Quant.{exists, every, afterEach, noLater, latestSaw, heldUnder}
-use Rattle.rules.specs.History.{GroupStep, PastStep, beginsAt, takesAt, levelAt, edgeAt, firstEdgeAt, stopAt, runningAt, lastTaken, presetPosition, positionFrom, positionAt, dwellAt, begins, takes, pastOf, latestDwellSaw, qualifiesAt, countsAt, openAt, heldAt, lasts}
+use Rattle.rules.specs.History.{GroupStep, PastStep, beginsAt, takesAt, levelAt, edgeAt, stopAt, lastTaken, presetPosition, positionFrom, positionAt, dwellAt, begins, takes, pastOf, latestDwellSaw, qualifiesAt, countsAt, openAt, heldAt, lasts}
 use Rattle.rules.proofs.Past.{both, pair, by, clash, Moment, now, back, none-of, number, all-of, exists→, exists←, every→, every←, AfterEach, afterEach→, afterEach←, NoLater, noLater→, noLater←}
 use Rattle.rules.proofs.Stretch.{LatestSaw, latestSaw→, latestSaw←}
 use Rattle.rules.proofs.Timed.{HeldUnder, heldUnder→, heldUnder←}

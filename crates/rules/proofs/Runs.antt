@@ -1,11 +1,11 @@
 -- Runs computed of the history's definitions, whole cards where the run is short; the theorem makes them runs of the card. They rule out that both sides
 -- are dark, and show what 01 names as easy to mistake. Assumes nothing.
-use Prim.Native.Nat.{ℕ, zero, suc, _+_}
+use Prim.Native.Nat.{ℕ, zero, suc}
 use mathlib.Core.Path.{_≡_, refl, _∙_}
 use mathlib.Core.Bool.{Bool, true, false, xor}
 use mathlib.Core.List.{List, [], _∷_, map}
 use lib.ListN.{replicate}
-use lib.IntN.{ℤ, pos}
+use lib.IntN.{pos}
 use Rattle.rules.specs.declared.Model.the-variants.{M8513}
 use Rattle.rules.specs.declared.IoType.the-variants.{Virtual}
 use Rattle.rules.specs.declared.Mode.{Mode}
@@ -119,11 +119,11 @@ cardRuns =
       calls = with (m0 0xC001 0 0 0) (m1 2 0 50 1) (at 10 0 ∷ at 11 0 ∷ at 12 0 ∷ at 13 0 ∷ at 14 0 ∷ at 15 0 ∷ at 60 0 ∷ at 20 0 ∷ []);
       says = (false, 1) ∷ (false, 1) ∷ (false, 1) ∷ (false, 1) ∷ (false, 1) ∷ (false, 0) ∷ (false, 0) ∷ (false, 1) ∷ [];
     }
-    -- an open Mode 4 group: a refused group cycle (a group over SF, its acknowledge cleared before) does not close it; a raw over 1023 is answered 11, and so
-    -- is the next step; a nudge with bit 14 drops the fault, and the group is closed, since 11 was a start; an edge in the dwell opens it
+    -- an open Mode 4 group: a refused group cycle (offset 1024; the acknowledge was cleared before) is no start, so it stays open without an edge; a raw over
+    -- 1023 is answered 11, and so is the next step; a nudge with bit 14 drops the fault, and the group is closed, since 11 was a start; an edge in the dwell opens it
     ∷ record {
       calls = with mode4 whole
-          (at 10 1 ∷ GroupCall (replicate 120 0) ∷ GroupCall (m0 0xC401 0 50 1024) ∷ at 20 1 ∷ at 5000 1 ∷ at 30 1 ∷ NudgeCall 0xC000 ∷ at 60 0 ∷ at 10 1 ∷ []);
+          (at 10 1 ∷ GroupCall (replicate 120 0) ∷ GroupCall (m0 0xC401 0 50 1024) ∷ at 20 0 ∷ at 5000 1 ∷ at 30 1 ∷ NudgeCall 0xC000 ∷ at 60 0 ∷ at 10 1 ∷ []);
       says = (false, 1) ∷ (false, 1) ∷ (true, 0) ∷ (true, 0) ∷ (false, 0) ∷ (false, 1) ∷ [];
     }
     ∷ []

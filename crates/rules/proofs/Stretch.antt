@@ -1,15 +1,15 @@
 -- The latest stretch of a predicate, as a fact, and how it goes on by one step.
 -- Assumes nothing.
 use mathlib.Core.Path.{_≡_, refl, sym, ap, _∙_}
-use mathlib.Core.Logic.{_⊎_, inl, inr, ⊎-elim}
-use mathlib.Core.Bool.{Bool, true, false, cond, not, _&&_, _||_, true≢false, false≢true}
+use mathlib.Core.Logic.{⊎-elim}
+use mathlib.Core.Bool.{Bool, true, false, cond, not, _&&_, _||_}
 use mathlib.Core.List.{List, [], _∷_, tail}
-use Prim.Native.Nat.{ℕ, suc, _≤_, _<_}
+use Prim.Native.Nat.{_≤_, _<_}
 use native.Mathlib.Omega.{arith}
 use lib.ListN.{length}
 use borrow.Author.Tests.{ltb-true, leb-true, lt-ltb, le-leb, not-true, not-false}
-use Rattle.rules.specs.Quant.{_⇒_, exists, every, before, upto, latestSaw}
-use Rattle.rules.proofs.Past.{both, pair, either, right, given, apply, same, by, clash, Moment, now, back, number, exists→, exists←, every→, every←, all-of, one-of}
+use Rattle.rules.specs.Quant.{latestSaw}
+use Rattle.rules.proofs.Past.{both, pair, either, right, given, apply, same, by, clash, Moment, now, back, number, exists→, exists←, every→, every←, all-of}
 
 module _ {A : Type 0} (B H : List A → Bool) where
   -- b is the last moment with B

@@ -1,10 +1,9 @@
 -- THE OUTPUT HISTORY: for every model and every list of calls from power-up, each step's answer is what 01 says of the list. Assumes nothing.
-use Prim.Native.Nat.{ℕ, _+_, _-_, _≤_, _<_}
-use mathlib.Core.Path.{_≡_, refl, sym, ap, _∙_}
-use mathlib.Core.Bool.{Bool, true, false, cond, not, _&&_, _||_}
+use Prim.Native.Nat.{ℕ, _-_, _<_}
+use mathlib.Core.Path.{_≡_, refl, ap, _∙_}
+use mathlib.Core.Bool.{Bool, true, false, cond, _&&_}
 use mathlib.Core.List.{List, [], _∷_}
 use native.Mathlib.Omega.{arith}
-use lib.ListN.{getD}
 use lib.Dec.{ltb}
 use borrow.Author.Tests.{ltb-true, ltb-false}
 use Rattle.rules.specs.declared.MachinePosition.{MachinePosition}
@@ -17,17 +16,17 @@ use Rattle.rules.specs.declared.State.{State}
 use Rattle.rules.specs.declared.Module.{Module}
 use Rattle.rules.specs.declared.Sample.{Sample}
 use Rattle.rules.specs.declared.Answer.{Answer}
-use Rattle.rules.specs.Words.{bit, packed, wordOf, forced}
+use Rattle.rules.specs.Words.{bit, wordOf, forced}
 use Rattle.rules.specs.Motion.{machineAt, detects}
 use Rattle.rules.specs.Switches.{present, Conditions, ownerOf, switchPosition, admitted, detectorHolds, andsHold, outputRule, forcedOff, forcedOn, outputOn, soundAnswer, faultAnswer}
 use Rattle.rules.specs.Programming.{isAccepted, setupCycle, groupCycle, limitCycle, nudgeCycle, sound}
 use Rattle.rules.specs.Calls.{Call, Step, SetupCall, GroupCall, LimitCall, NudgeCall}
-use Rattle.rules.specs.Card.{speedAt, conditionsAt, outputAt, moduleStart, groupStart, limitStart, soundState, freshModule, poweredUp, setupCall, groupCall, limitCall, nudgeCall, stepState, stepAnswer, stepCall}
+use Rattle.rules.specs.Card.{conditionsAt, outputAt, moduleStart, groupStart, limitStart, soundState, freshModule, poweredUp, setupCall, groupCall, limitCall, nudgeCall, stepState, stepAnswer, stepCall}
 use Rattle.rules.specs.Run.{modelNumber, moduleAfter, run, answers, outputBit, EachStep}
-use Rattle.rules.specs.History.{configurationOf, programmingOf, setupInForce, sinceModuleStart, sinceGroupStart, sinceLimitStart, rpmIn, lastsIn, expectedConditions, expectedRule, expectedOutput, lastPosition, previousVirtuals, expectedAnswer, expectedAnswers}
+use Rattle.rules.specs.History.{configurationOf, programmingOf, expectedConditions, expectedRule, expectedOutput, lastPosition, previousVirtuals, expectedAnswer, expectedAnswers}
 use Rattle.rules.proofs.Packing.{packed-bit, packed-same}
 use Rattle.rules.proofs.Programs.{model-is}
-use Rattle.rules.proofs.Agreement.{powered-up, configuration-is, Agrees, agrees, c-is, rpm-in, position-in, isopen-in, lasting-in}
+use Rattle.rules.proofs.Agreement.{powered-up, configuration-is, agrees, c-is, rpm-in, position-in, isopen-in, lasting-in}
 
 -- ---- The output rule
 
@@ -156,49 +155,48 @@ every-answer m calls = from m [] calls
 
 -- ---- By outputs
 
--- sound or answered 11, an answer's bit n is output n
-bit-is : (ok : Bool) (g : Configuration) (s : Sample) (last : MachinePosition) (rpm before : ℕ) (output : ℕ → Bool) (n : ℕ) → n < 32
+-- of two words packed from outputs, bit n is output n
+word-bit : (output : ℕ → Bool) (n : ℕ) → n < 32 → cond (ltb n 16) (bit (wordOf 0 output) n) (bit (wordOf 16 output) (n - 16)) ≡ output n
+word-bit output n b = go (ltb n 16) refl
+  where
+    go : (real : Bool) → ltb n 16 ≡ real → cond real (bit (wordOf 0 output) n) (bit (wordOf 16 output) (n - 16)) ≡ output n
+    go true e = let h = ltb-true n 16 e in packed-bit 16 0 n output h ∙ ap output (omega arith)
+    go false e = let h = ltb-false n 16 e in packed-bit 16 16 (n - 16) output (omega arith) ∙ ap output (omega arith)
+
+-- sound or answered 11
+answer-bit : (ok : Bool) (g : Configuration) (s : Sample) (last : MachinePosition) (rpm before : ℕ) (output : ℕ → Bool) (n : ℕ) → n < 32
     → outputBit (cond ok (soundAnswer g s rpm before output) (faultAnswer g last before output)) n ≡ output n
 unfolding soundAnswer faultAnswer
-bit-is ok g s last rpm before output n b = go ok (ltb n 16) refl
-  where
-    go : (ok real : Bool) → ltb n 16 ≡ real
-        → outputBit (cond ok (soundAnswer g s rpm before output) (faultAnswer g last before output)) n ≡ output n
-    go true true e = let h = ltb-true n 16 e in rw e (packed-bit 16 0 n output (omega arith) ∙ ap output (omega arith))
-    go true false e = let h = ltb-false n 16 e in rw e (packed-bit 16 16 (n - 16) output (omega arith) ∙ ap output (omega arith))
-    go false true e = let h = ltb-true n 16 e in rw e (packed-bit 16 0 n output (omega arith) ∙ ap output (omega arith))
-    go false false e = let h = ltb-false n 16 e in rw e (packed-bit 16 16 (n - 16) output (omega arith) ∙ ap output (omega arith))
+answer-bit true g s last rpm before output n b = word-bit output n b
+answer-bit false g s last rpm before output n b = word-bit output n b
 
--- THE MAIN STATEMENT. For every model, list of calls, the latest first, and sample, and each of the 32 outputs, counted from 0: the bit in the step's
--- answer is on exactly when the output is present and 01's rule holds by the history: not forced off, and forced on or, in a step not answered 11, the
--- switch holds, the group is open and what is ANDed holds.
-pub each-output : (m : Model) (l : List Call) (s : Sample) (n : ℕ) → n < 32
-    → outputBit (stepCall (run m l) s .answer) n
-    ≡ (present m n
-    && forced (forcedOff s n) (forcedOn s n) (sound (configurationOf m l) s && outputRule (programmingOf m l) (expectedConditions m l s) n))
-unfolding expectedAnswer expectedOutput outputOn expectedRule
-each-output m l s n b =
-    ap (λ (a : Answer). outputBit a n) (history m l s)
-    ∙ bit-is (sound (configurationOf m l) s) (configurationOf m l) s (lastPosition m l) _ _ (expectedOutput m l s) n b
-
--- what the main statement says of a step: of the calls before it, its sample and its answer
+-- Of a step after the calls `l`, the latest first, and of its answer: the bit of each of the 32 outputs, counted from 0, is on exactly when the output is
+-- present and 01's rule holds by the history: not forced off, and forced on or, in a step not answered 11, the switch holds, the group is open and what is
+-- ANDed holds.
 abbrev pub OutputsRight : Model → List Call → Sample → Answer → Type 0
-OutputsRight m past s a =
+OutputsRight m l s a =
     (n : ℕ) → n < 32
     → outputBit a n
     ≡ (present m n
-    && forced (forcedOff s n) (forcedOn s n) (sound (configurationOf m past) s && outputRule (programmingOf m past) (expectedConditions m past s) n))
+    && forced (forcedOff s n) (forcedOn s n) (sound (configurationOf m l) s && outputRule (programmingOf m l) (expectedConditions m l s) n))
+
+-- THE MAIN STATEMENT: so it is for every model, every list of calls from power-up and every sample
+pub each-output : (m : Model) (l : List Call) (s : Sample) → OutputsRight m l s (stepCall (run m l) s .answer)
+unfolding expectedAnswer expectedOutput outputOn expectedRule
+each-output m l s n b =
+    ap (λ (a : Answer). outputBit a n) (history m l s)
+    ∙ answer-bit (sound (configurationOf m l) s) (configurationOf m l) s (lastPosition m l) _ _ (expectedOutput m l s) n b
 
 each-from : (m : Model) (past calls : List Call) → EachStep (OutputsRight m) past (run m past) calls
 unfolding run
 each-from m past [] = tt
-each-from m past (Step s ∷ calls) = (λ n b. each-output m past s n b, each-from m (Step s ∷ past) calls)
+each-from m past (Step s ∷ calls) = (each-output m past s, each-from m (Step s ∷ past) calls)
 each-from m past (SetupCall file ∷ calls) = each-from m (SetupCall file ∷ past) calls
 each-from m past (GroupCall file ∷ calls) = each-from m (GroupCall file ∷ past) calls
 each-from m past (LimitCall file ∷ calls) = each-from m (LimitCall file ∷ past) calls
 each-from m past (NudgeCall w ∷ calls) = each-from m (NudgeCall w ∷ past) calls
 
--- the same in the order of time: for every list of calls from power-up, each step in it and each output
+-- the same in the order of time: for every list of calls from power-up, of each step in it
 pub every-output : (m : Model) (calls : List Call) → EachStep (OutputsRight m) [] (poweredUp (modelNumber m) .card) calls
 unfolding run
 every-output m calls = each-from m [] calls

@@ -1,12 +1,12 @@
 -- A timed switch: the count of steps that are left to it says the same as its past.
 -- Assumes nothing.
 use mathlib.Core.Path.{_≡_, refl, sym, ap, _∙_}
-use mathlib.Core.Bool.{Bool, true, false, cond, not, _&&_, false≢true, and-false}
+use mathlib.Core.Bool.{Bool, true, false, cond, not, _&&_}
 use mathlib.Core.List.{List, [], _∷_, tail}
-use Prim.Native.Nat.{ℕ, zero, suc, _+_, _-_, _*_, _≤_, _<_}
+use Prim.Native.Nat.{ℕ, suc, _+_, _-_, _≤_, _<_}
 use native.Mathlib.Omega.{arith}
 use lib.ListN.{length}
-use lib.Dec.{ltb, leb}
+use lib.Dec.{ltb}
 use borrow.Author.Tests.{ltb-true, ltb-false, lt-ltb, leb-true, le-leb, le-ltb, not-true}
 use Rattle.rules.specs.declared.Switch.{Switch}
 use Rattle.rules.specs.declared.Switch.the-variants.{Unprogrammed, Normal, Pulse, Timed}
@@ -14,8 +14,8 @@ use Rattle.rules.specs.declared.TimedState.{TimedState}
 use Rattle.rules.specs.Switches.{timedSteps}
 use Rattle.rules.specs.Card.{timedAfter, freshTimed}
 use Rattle.rules.specs.History.{heldAt, lasts}
-use Rattle.rules.specs.Quant.{_⇒_, exists, every, before, upto, heldUnder}
-use Rattle.rules.proofs.Past.{both, pair, given, apply, same, by, clash, Moment, now, back, number, exists→, exists←, every→, every←, all-of, none-of}
+use Rattle.rules.specs.Quant.{heldUnder}
+use Rattle.rules.proofs.Past.{both, pair, given, apply, same, by, clash, Moment, now, back, number, exists→, exists←, every→, every←, all-of}
 
 module _ {A : Type 0} (H : List A → Bool) where
   -- how many steps have passed since H began

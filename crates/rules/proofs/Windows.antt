@@ -7,16 +7,15 @@ use mathlib.Core.List.{List, [], _∷_}
 use native.Mathlib.Nat.{zero-mod, suc-mod, mod-lt, mod-self, mod-eq-of-lt, mod-le}
 use native.Mathlib.Omega.{arith}
 use lib.ListN.{length, take, drop}
-use lib.Dec.{ltb, leb, eqb, lit<, lit≤}
-use lib.IntN.{ℤ, pos, negsuc, negℤ, subℕ, _+ℤ_, _-ℤ_, +ℤ-assoc, +ℤ-comm, negℤ-+ℤ}
+use lib.Dec.{ltb, eqb, lit<, lit≤}
+use lib.IntN.{ℤ, pos, negℤ, subℕ, _+ℤ_, _-ℤ_, +ℤ-assoc, +ℤ-comm, negℤ-+ℤ}
 use borrow.Author.Tests.{ltb-true, ltb-false, leb-true, leb-false, lt-ltb, le-ltb, eq-eqb, ne-eqb}
 use Rattle.rules.specs.declared.Setup.{Setup}
 use Rattle.rules.specs.declared.Last.{Last}
 use Rattle.rules.specs.declared.Last.the-variants.{NoStep, At}
 use Rattle.rules.specs.declared.Window.{Window}
-use Rattle.rules.specs.declared.Travel.{Travel}
 use Rattle.rules.specs.declared.Speed.{Speed}
-use Rattle.rules.specs.Words.{modulo, roundHalfUp}
+use Rattle.rules.specs.Words.{roundHalfUp}
 use Rattle.rules.specs.Motion.{movement, windowSteps, windowTime, shortSteps, rpmOf, travelValue}
 use Rattle.rules.specs.Card.{biasedMovement, updates, windowSum, windowAfter, travelOf, travelAfter, rpmAfter, speedAfter, freshWindow, freshSpeed}
 use Rattle.rules.specs.History.{movementFrom, movements, total, windowTotal, cOf, rpmAt, updateAt}

@@ -11,7 +11,7 @@ ghost use Rattle.rules.specs.Groups as groups;
 ghost use Rattle.rules.specs.Switches as switches;
 ghost use Rattle.rules.specs.Switches.{advanceValue, moved, countAt, usedPair, pairHolds, normalHolds, pulseStart, pulseOn, pulseHolds, switchHolds};
 ghost use Rattle.rules.specs.Words.{bits, signedWord, someOf, table};
-ghost use Rattle.rules.specs.Programming.{limitWord, allZero, controlBad, advanceBad, pairBad, limitPairBad, setpointBad, fifthTimed, pulseBad, pulsesTouch, blockBits, advanceOf, andedOf, switchOf, setpointOf, limitFrom};
+ghost use Rattle.rules.specs.Programming.{allZero, controlBad, advanceBad, pairBad, limitPairBad, setpointBad, fifthTimed, pulseBad, pulsesTouch, blockBits, advanceOf, andedOf, switchOf, setpointOf, limitFrom};
 ghost use Rattle.rules.specs.Card.{timedAfter};
 ghost use Rattle.switch.specs.Parts.{shiftCounts, pairAt, somePair, lastPulse, timedLeft, someTouch, blockOf, timedBlock, durationBit, lengthBit, touchBit, limitOfBlock};
 use rules::Advance;
@@ -54,12 +54,16 @@ pub fn holds(top: u16, on: u16, off: u16, p: u16) -> bool
     ahead(top, on, p) < ahead(top, on, off)
 }
 
-// The magnitude of s, reduced mod SF: advance × c × SF / 245760. The whole product fits in 64 bits.
+// The magnitude of s, reduced mod SF: advance × c × SF / 245760. The whole product fits in 64 bits; below one turn nothing is left to reduce.
 fn shift_counts(top: u16, tenths: u16, counts: u32) -> u16
     ensures { λ r. ⌜ r ≡ shiftCounts (top + 1) tenths counts ⌝ }
 {
     let sf = top as u64 + 1;
-    (tenths as u64 * counts as u64 * sf / 245760 % sf) as u16
+    let s = tenths as u64 * counts as u64 * sf / 245760;
+    if s < sf {
+        return s as u16;
+    }
+    (s % sf) as u16
 }
 
 // What each setpoint of a switch moves by at c: −s mod SF. Like signs make s positive.

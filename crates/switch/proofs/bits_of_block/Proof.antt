@@ -1,6 +1,5 @@
 -- `switch::bits_of_block` meets its contract: each bit in turn. Assumes nothing.
 use Prim.Native.Nat.{_+_, _%_}
-use mathlib.Core.Path.{sym, _∙_}
 use borrow.Author.Tests.{eq-eqb, ne-eqb}
 use lib.ListN.{getD}
 use Rattle.switch.proofs.Blocks.{bits-of-three, bits-of-other}

@@ -1,11 +1,9 @@
 -- `switch::limit_from` meets its contract: the block alone decides. Assumes nothing.
 use Prim.Native.Nat.{_-_}
-use mathlib.Core.Bool.{Bool}
-use mathlib.Core.Path.{_≡_, ap}
+use mathlib.Core.Path.{_≡_, ap, sym, _∙_}
 use Rattle.rules.specs.Switches.{present}
 use Rattle.rules.specs.Programming.{allZero}
-use Rattle.switch.specs.Parts.{blockOf, limitOfBlock}
-use mathlib.Core.Path.{sym, _∙_}
+use Rattle.switch.specs.Parts.{blockOf}
 use Rattle.switch.proofs.Blocks.{limit-alone}
 use borrow.Author.Needs.{needs}
 use Rattle.switch.proofs.limit_from.Statement.{statement}

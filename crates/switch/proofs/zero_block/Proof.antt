@@ -1,5 +1,5 @@
 -- `switch::zero_block` meets its contract. The invariant: no word before k is set, so that all are 0 where those from k on are. Assumes nothing.
-use Prim.Native.Nat.{_+_, _-_, _*_, _≤_}
+use Prim.Native.Nat.{_-_, _≤_}
 use mathlib.Core.Path.{_≡_, refl, sym}
 use native.Mathlib.Nat.{zero-add}
 use native.Mathlib.Omega.{arith}

@@ -1,7 +1,7 @@
 -- The advance in signs and magnitudes: 01's s is a quotient of magnitudes, and every setpoint of a switch moves by one displacement.
 -- Assumes nothing.
-use Prim.Native.Nat.{ℕ, zero, suc, _+_, _-_, _*_, _/_, _%_, _≤_}
-use mathlib.Core.Bool.{Bool, true, false, cond, not, xor}
+use Prim.Native.Nat.{ℕ, zero, suc, _+_, _-_, _*_, _/_, _%_}
+use mathlib.Core.Bool.{Bool, true, false, cond, xor}
 use mathlib.Core.Path.{_≡_, refl, sym, ap, _∙_}
 use native.Mathlib.Nat.{zero-div, mul-zero, zero-mul, zero-mod, mod-mod, add-mod-mod}
 use native.Mathlib.Omega.{arith}
@@ -13,7 +13,7 @@ use Rattle.rules.specs.Motion.{signed}
 use Rattle.rules.specs.Groups.{ahead}
 use Rattle.rules.specs.Switches.{advanceShift, moved}
 use Rattle.rules.proofs.Laws.{modulo-natural, ahead-natural, ahead-up}
-use Rattle.switch.specs.Parts.{shiftCounts, movedBy}
+use Rattle.switch.specs.Parts.{shiftCounts}
 
 -- 0 has one sign
 no-sign : (n : ℕ) → n ≡ 0 → negℤ (pos n) ≡ pos n
@@ -68,8 +68,8 @@ reduced t x (pos n) =
 reduced t x (negsuc n) = reduced-up t x n
 
 -- every setpoint moves by what 0 moves
-pub moved-by : (t : ℕ) (a c : ℤ) (x : ℕ) → moved (t + 1) a c x ≡ movedBy (t + 1) (moved (t + 1) a c 0) x
-unfolding moved movedBy
+pub moved-by : (t : ℕ) (a c : ℤ) (x : ℕ) → moved (t + 1) a c x ≡ (x + moved (t + 1) a c 0) % (t + 1)
+unfolding moved
 moved-by t a c x = reduced t x (advanceShift (t + 1) a c)
 
 backward : (t n : ℕ) → modulo (pos 0 -ℤ pos n) (t + 1) ≡ ahead (t + 1) (n % (t + 1)) 0

@@ -7,7 +7,7 @@ use mathlib.Core.Path.{_≡_, refl, sym, ap, _∙_}
 use native.Mathlib.Nat.{pow-suc, mod-one, mod-lt, mod-eq-of-lt, div-add-mod', add-mul-mod-self-right, div-div-eq-div-mul, one-le-pow}
 use native.Mathlib.Numerals.{add-one}
 use native.Mathlib.Omega.{arith}
-use borrow.Author.Tests.{eq-eqb, ne-eqb, eqb-true, eqb-false}
+use borrow.Author.Tests.{ne-eqb, eqb-true, eqb-false}
 use lib.Dec.{eqb}
 use Rattle.rules.specs.Words.{bit, someOf, otherBit}
 

@@ -2,18 +2,17 @@
 -- Assumes nothing.
 use Prim.Native.Nat.{ℕ, zero, suc, _+_, _-_, _*_, _/_, _≤_, _<_, min}
 use mathlib.Core.Bool.{Bool, true, false, cond, _&&_}
-use mathlib.Core.Path.{_≡_, refl, sym, ap, _∙_}
+use mathlib.Core.Path.{_≡_, refl, sym}
 use native.Mathlib.Nat.{zero-add, div-zero, mul-zero, zero-div, mul-le-mul-right, le-div-iff-mul-le, div-lt-iff-lt-mul, div-mul-le-self, min-le-left, min-le-right}
 use native.Mathlib.Omega.{arith}
-use borrow.Author.Tests.{eqb-true, eqb-false, leb-true, ltb-true, ltb-false, lt-ltb, le-ltb, le-leb}
+use borrow.Author.Tests.{eqb-true, leb-true, ltb-false, le-ltb, le-leb}
 use lib.Dec.{ltb, leb, eqb}
-use Rattle.rules.specs.Words.{someOf}
 use Rattle.rules.specs.Switches.{pulseStart, pulseOn}
 use Rattle.switch.specs.Parts.{lastPulse}
 use Rattle.switch.proofs.Ranges.{some-hit, some-none}
 
 -- a quotient does not fall with its dividend
-pub div-monotone : (d : ℕ) {m n : ℕ} → m ≤ n → m / d ≤ n / d
+div-monotone : (d : ℕ) {m n : ℕ} → m ≤ n → m / d ≤ n / d
 div-monotone zero {m} {n} h = rw (div-zero m, div-zero n) (omega arith)
 div-monotone (suc d) {m} {n} h = le-div-iff-mul-le {k = suc d} {x = m / suc d} {y = n} (omega arith) .1 (omega (arith, div-mul-le-self m (suc d)))
 
@@ -25,10 +24,6 @@ start-by r q k j false e = refl
 pub start-value : (r q k j : ℕ) → pulseStart r q k j ≡ j * (r - k) / (q - 1)
 unfolding pulseStart
 start-value r q k j = start-by r q k j (eqb q 1) refl
-
-pub starts-rise : (r q k : ℕ) {i j : ℕ} → i ≤ j → pulseStart r q k i ≤ pulseStart r q k j
-starts-rise r q k {i} {j} h =
-    rw (start-value r q k i, start-value r q k j) (div-monotone (q - 1) (mul-le-mul-right (r - k) h))
 
 -- in m = R − K and d = Q − 1: the last started pulse has started, and no started one starts after it
 abbrev last : ℕ → ℕ → ℕ → ℕ

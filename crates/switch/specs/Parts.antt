@@ -15,20 +15,16 @@ use Rattle.rules.specs.Programming.{limitWord, controlType, blockUsed, blockLen
 unfoldable pub shiftCounts : ℕ → ℕ → ℕ → ℕ
 shiftCounts sf tenths counts = tenths * counts * sf / 245760 % sf
 
--- a setpoint moved by a displacement
-unfoldable pub movedBy : ℕ → ℕ → ℕ → ℕ
-movedBy sf by setpoint = (setpoint + by) % sf
-
--- a used pair whose setpoints are moved by their displacements holds at p
+-- a used pair whose setpoints move by `onmove` and `offmove` holds at p
 unfoldable pub pairAt : ℕ → ℕ → ℕ → ℕ → ℕ → ℕ → Bool
-pairAt sf onby offby on off p = usedPair on off && holds sf (movedBy sf onby on) (movedBy sf offby off) p
+pairAt sf onmove offmove on off p = usedPair on off && holds sf ((on + onmove) % sf) ((off + offmove) % sf) p
 
 -- pair k of a switch's setpoints, so moved; some of the eight
 unfoldable pub pairOf : ℕ → ℕ → ℕ → List ℕ → ℕ → ℕ → Bool
-pairOf sf onby offby setpoints p k = pairAt sf onby offby (getD setpoints (2 * k) 0) (getD setpoints (2 * k + 1) 0) p
+pairOf sf onmove offmove setpoints p k = pairAt sf onmove offmove (getD setpoints (2 * k) 0) (getD setpoints (2 * k + 1) 0) p
 
 unfoldable pub somePair : ℕ → ℕ → ℕ → List ℕ → ℕ → Bool
-somePair sf onby offby setpoints p = someOf 8 0 (pairOf sf onby offby setpoints p)
+somePair sf onmove offmove setpoints p = someOf 8 0 (pairOf sf onmove offmove setpoints p)
 
 -- the last of Q pulses that has started `at` counts from the train's start, or one that starts with it
 unfoldable pub lastPulse : ℕ → ℕ → ℕ → ℕ → ℕ

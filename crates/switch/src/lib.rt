@@ -3,7 +3,7 @@
 ghost use mathlib.Core.Bool.{false, _||_};
 ghost use mathlib.Core.List.{[], _∷_};
 ghost use mathlib.Core.Path.{_≡_};
-ghost use Prim.Native.Nat.{_+_, _-_, _*_};
+ghost use Prim.Native.Nat.{_+_, _-_, _*_, _%_};
 ghost use lib.IntN.{natAbs};
 ghost use lib.ListN.{getD};
 ghost use Rattle.rules.specs.Motion.{realCount, travelValue};
@@ -11,9 +11,9 @@ ghost use Rattle.rules.specs.Groups as groups;
 ghost use Rattle.rules.specs.Switches as switches;
 ghost use Rattle.rules.specs.Switches.{advanceValue, moved, countAt, usedPair, pairHolds, normalHolds, pulseStart, pulseOn, pulseHolds, switchHolds};
 ghost use Rattle.rules.specs.Words.{bits, signedWord, someOf, table};
-ghost use Rattle.rules.specs.Programming.{limitWord, allZero, controlBad, advanceBad, pairBad, limitPairBad, setpointBad, fifthTimed, pulseBad, pulsesTouch, blockBits, advanceOf, andedOf, switchOf, setpointOf, limitFrom};
+ghost use Rattle.rules.specs.Programming.{allZero, controlBad, advanceBad, pairBad, limitPairBad, setpointBad, fifthTimed, pulseBad, pulsesTouch, blockBits, advanceOf, andedOf, switchOf, setpointOf, limitFrom};
 ghost use Rattle.rules.specs.Card.{timedAfter};
-ghost use Rattle.switch.specs.Parts.{shiftCounts, movedBy, pairAt, somePair, lastPulse, timedLeft, someTouch, blockOf, timedBlock, durationBit, lengthBit, touchBit, limitOfBlock};
+ghost use Rattle.switch.specs.Parts.{shiftCounts, pairAt, somePair, lastPulse, timedLeft, someTouch, blockOf, timedBlock, durationBit, lengthBit, touchBit, limitOfBlock};
 use rules::Advance;
 use rules::Anded;
 use rules::Limit;
@@ -54,12 +54,16 @@ pub fn holds(top: u16, on: u16, off: u16, p: u16) -> bool
     ahead(top, on, p) < ahead(top, on, off)
 }
 
-// The magnitude of s, reduced mod SF: advance × c × SF / 245760. The whole product fits in 64 bits.
+// The magnitude of s, reduced mod SF: advance × c × SF / 245760. The whole product fits in 64 bits; below one turn nothing is left to reduce.
 fn shift_counts(top: u16, tenths: u16, counts: u32) -> u16
     ensures { λ r. ⌜ r ≡ shiftCounts (top + 1) tenths counts ⌝ }
 {
     let sf = top as u64 + 1;
-    (tenths as u64 * counts as u64 * sf / 245760 % sf) as u16
+    let s = tenths as u64 * counts as u64 * sf / 245760;
+    if s < sf {
+        return s as u16;
+    }
+    (s % sf) as u16
 }
 
 // What each setpoint of a switch moves by at c: −s mod SF. Like signs make s positive.
@@ -81,7 +85,7 @@ pub fn displacement(top: u16, a: Advance, c: Travel) -> u16
 
 // A setpoint moved by a displacement. In range one comparison and one subtraction, else the remainder.
 pub fn moved_by(top: u16, by: u16, setpoint: u16) -> u16
-    ensures { λ r. ⌜ r ≡ movedBy (top + 1) by setpoint ⌝ }
+    ensures { λ r. ⌜ r ≡ (setpoint + by) % (top + 1) ⌝ }
 {
     if top < by {
         return moved_far(top, by, setpoint);
@@ -97,7 +101,7 @@ pub fn moved_by(top: u16, by: u16, setpoint: u16) -> u16
 
 // The same for counts out of range.
 fn moved_far(top: u16, by: u16, setpoint: u16) -> u16
-    ensures { λ r. ⌜ r ≡ movedBy (top + 1) by setpoint ⌝ }
+    ensures { λ r. ⌜ r ≡ (setpoint + by) % (top + 1) ⌝ }
 {
     let sf = top as u32 + 1;
     ((setpoint as u32 + by as u32) % sf) as u16
@@ -134,14 +138,14 @@ fn setpoint(setpoints: [u16; 16], i: usize) -> u16
 }
 
 // One pair at a position, its setpoints moved by their displacements. For how long it holds is decided here.
-fn pair_at(top: u16, onby: u16, offby: u16, on: u16, off: u16, p: Position) -> bool
-    ensures { λ r. ⌜ r ≡ pairAt (top + 1) onby offby on off (countAt p) ⌝ }
+fn pair_at(top: u16, onmove: u16, offmove: u16, on: u16, off: u16, p: Position) -> bool
+    ensures { λ r. ⌜ r ≡ pairAt (top + 1) onmove offmove on off (countAt p) ⌝ }
 {
     if used_pair(on, off) {
         return holds(
             top,
-            moved_by(top, onby, on),
-            moved_by(top, offby, off),
+            moved_by(top, onmove, on),
+            moved_by(top, offmove, off),
             count_at(p),
         );
     }
@@ -149,14 +153,19 @@ fn pair_at(top: u16, onby: u16, offby: u16, on: u16, off: u16, p: Position) -> b
 }
 
 // The loop that tests the pairs of a normal switch, up to the first that holds.
-fn some_pair(top: u16, onby: u16, offby: u16, setpoints: [u16; 16], p: Position) -> bool
-    ensures { λ r. ⌜ r ≡ somePair (top + 1) onby offby setpoints (countAt p) ⌝ }
+fn some_pair(top: u16, onmove: u16, offmove: u16, setpoints: [u16; 16], p: Position) -> bool
+    ensures { λ r. ⌜ r ≡ somePair (top + 1) onmove offmove setpoints (countAt p) ⌝ }
 {
     let mut k: usize = 0;
     while k < 8 {
-        let on = setpoint(setpoints, 2 * k);
-        let off = setpoint(setpoints, 2 * k + 1);
-        if pair_at(top, onby, offby, on, off, p) {
+        if pair_at(
+            top,
+            onmove,
+            offmove,
+            setpoints[2 * k],
+            setpoints[2 * k + 1],
+            p,
+        ) {
             return true;
         }
         k = k + 1;
@@ -170,9 +179,9 @@ pub fn pair_holds(top: u16, c: Travel, l: Limit, k: u16, p: Position) -> bool
 {
     let s = l.setpoints;
     let i = 2 * k as usize;
-    let onby = displacement(top, l.onadvance, c);
-    let offby = displacement(top, l.offadvance, c);
-    pair_at(top, onby, offby, setpoint(s, i), setpoint(s, i + 1), p)
+    let onmove = displacement(top, l.onadvance, c);
+    let offmove = displacement(top, l.offadvance, c);
+    pair_at(top, onmove, offmove, setpoint(s, i), setpoint(s, i + 1), p)
 }
 
 // Normal: some used pair holds. The displacements are worked out once for all its pairs.
@@ -180,9 +189,9 @@ pub fn normal_holds(top: u16, c: Travel, l: Limit, p: Position) -> bool
     ensures { λ r. ⌜ r ≡ normalHolds (top + 1) (travelValue c) l p ⌝ }
 {
     let s = l.setpoints;
-    let onby = displacement(top, l.onadvance, c);
-    let offby = displacement(top, l.offadvance, c);
-    some_pair(top, onby, offby, s, p)
+    let onmove = displacement(top, l.onadvance, c);
+    let offmove = displacement(top, l.offadvance, c);
+    some_pair(top, onmove, offmove, s, p)
 }
 
 // Where pulse j of a train of Q pulses of K counts in R starts.
@@ -425,7 +434,7 @@ fn block(file: &[u16], n: u16) -> [u16; 19]
 }
 
 // A block, taken for a file that begins with it, is all zero.
-fn zero(b: [u16; 19]) -> bool
+fn zero_block(b: [u16; 19]) -> bool
     ensures { λ r. ⌜ r ≡ allZero b 0 ⌝ }
 {
     let mut k: usize = 0;
@@ -442,7 +451,7 @@ fn zero(b: [u16; 19]) -> bool
 pub fn all_zero(file: &[u16], n: u16) -> bool
     ensures { λ r. ⌜ r ≡ allZero (now (file .entry)) n ⌝ }
 {
-    zero(block(file, n))
+    zero_block(block(file, n))
 }
 
 // Limit block n is of type timed.
@@ -543,7 +552,7 @@ fn touch_bad(top: u16, bit3: bool, bit4: bool, b: [u16; 19]) -> bool
 }
 
 // The word with these as its bits 1 to 5.
-fn word_of(bit1: bool, bit2: bool, bit3: bool, bit4: bool, bit5: bool) -> u16
+fn error_word(bit1: bool, bit2: bool, bit3: bool, bit4: bool, bit5: bool) -> u16
     ensures { λ r. ⌜ r ≡ bits (false ∷ bit1 ∷ bit2 ∷ bit3 ∷ bit4 ∷ bit5 ∷ []) ⌝ }
 {
     2 * (bit1 as u16 + 2 * (bit2 as u16 + 2 * (bit3 as u16 + 2 * (bit4 as u16 + 2 * bit5 as u16))))
@@ -560,25 +569,25 @@ fn advances_bad(on: u16, off: u16) -> bool
 }
 
 // Bits 1 to 5 of a block; of type 3 only 1 and 2 are tested.
-fn bits_of(top: u16, fifth: bool, b: [u16; 19]) -> u16
+fn bits_of_block(top: u16, fifth: bool, b: [u16; 19]) -> u16
     ensures { λ r. ⌜ r ≡ blockBits (top + 1) fifth b 0 ⌝ }
 {
     let bit1 = control_bad(b[0]);
     let bit2 = advances_bad(b[1], b[2]);
     if b[0] % 4 == 3 {
-        return word_of(bit1, bit2, false, false, false);
+        return error_word(bit1, bit2, false, false, false);
     }
     let bit3 = setpoint_bad(top, b);
     let bit4 = length_bad(top, fifth, bit3, b);
     let bit5 = touch_bad(top, bit3, bit4, b);
-    word_of(bit1, bit2, bit3, bit4, bit5)
+    error_word(bit1, bit2, bit3, bit4, bit5)
 }
 
 // Bits 1 to 5 of word 630 for limit block n; `fifth` says that the output is at least the fifth timed of its kind.
 pub fn block_bits(top: u16, fifth: bool, file: &[u16], n: u16) -> u16
     ensures { λ r. ⌜ r ≡ blockBits (top + 1) fifth (now (file .entry)) n ⌝ }
 {
-    bits_of(top, fifth, block(file, n))
+    bits_of_block(top, fifth, block(file, n))
 }
 
 // ---- The decoding of one limit block
@@ -671,7 +680,7 @@ fn setpoints_of(b: [u16; 19]) -> [u16; 16]
 }
 
 // The program that a block gives.
-fn limit_of(b: [u16; 19]) -> Limit
+fn limit_of_block(b: [u16; 19]) -> Limit
     ensures { λ r. ⌜ r ≡ limitOfBlock b ⌝ }
 {
     Limit {
@@ -690,10 +699,10 @@ pub fn limit_from(m: Model, file: &[u16], n: u16) -> Limit
 {
     if present(m, one_less(n)) {
         let b = block(file, n);
-        if zero(b) {
+        if zero_block(b) {
             return Limit::NONE;
         }
-        return limit_of(b);
+        return limit_of_block(b);
     }
     Limit::NONE
 }

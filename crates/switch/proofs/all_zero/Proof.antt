@@ -8,11 +8,11 @@ use Rattle.switch.proofs.all_zero.Tie as tie
 block-requires : tie.Need-block-requires
 block-requires c κs = search needs
 
-zero-requires : tie.Need-zero-requires
-zero-requires c κs = search needs
+zero-block-requires : tie.Need-zero-block-requires
+zero-block-requires c κs = search needs
 
 returns : tie.Need-returns
-returns c = c .zero .ensures ∙ rw (c .before .block .ensures) (zero-alone _ _)
+returns c = c .zero-block .ensures ∙ rw (c .before .block .ensures) (zero-alone _ _)
 
 pub all-zero-spec : {M : Type 1} → statement M
-all-zero-spec = tie.close (tie.spec block-requires zero-requires returns)
+all-zero-spec = tie.close (tie.spec block-requires zero-block-requires returns)

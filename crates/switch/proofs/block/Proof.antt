@@ -1,8 +1,8 @@
 -- `switch::block` meets its contract. The invariant: from `left` on the words are the block's. Assumes nothing.
 use Prim.Native.Nat.{_+_, _-_, _≤_}
-use mathlib.Core.Path.{_≡_, refl, sym, _∙_}
+use mathlib.Core.Path.{_≡_, refl, _∙_}
 use native.Mathlib.Omega.{arith}
-use lib.ListN.{length, drop, set, length-set}
+use lib.ListN.{length, drop, length-set}
 use Rattle.rules.specs.Words.{table}
 use Rattle.rules.specs.Programming.{limitWord}
 use Rattle.switch.specs.Parts.{blockOf}

@@ -8,11 +8,11 @@ use Rattle.switch.proofs.block_bits.Tie as tie
 block-requires : tie.Need-block-requires
 block-requires c κs = search needs
 
-bits-of-requires : tie.Need-bits-of-requires
-bits-of-requires c κs = search needs
+bits-of-block-requires : tie.Need-bits-of-block-requires
+bits-of-block-requires c κs = search needs
 
 returns : tie.Need-returns
-returns c = c .bits-of .ensures ∙ rw (c .before .block .ensures) (bits-alone _ _ _ _)
+returns c = c .bits-of-block .ensures ∙ rw (c .before .block .ensures) (bits-alone _ _ _ _)
 
 pub block-bits-spec : {M : Type 1} → statement M
-block-bits-spec = tie.close (tie.spec block-requires bits-of-requires returns)
+block-bits-spec = tie.close (tie.spec block-requires bits-of-block-requires returns)

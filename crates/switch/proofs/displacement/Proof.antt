@@ -1,9 +1,9 @@
 -- `switch::displacement` meets its contract: s by signs and magnitudes. Assumes nothing.
 use Rattle.switch.proofs.Advance.{displacement-of, unmoved}
 use native.Mathlib.Nat.{mul-zero, zero-mul}
-use mathlib.Core.Path.{_≡_, sym, _∙_}
+use mathlib.Core.Path.{_≡_, sym}
 use mathlib.Core.Bool.{xor, true, false}
-use Prim.Native.Nat.{_+_, _*_}
+use Prim.Native.Nat.{_*_}
 use borrow.Author.Needs.{needs}
 use Rattle.switch.proofs.displacement.Statement.{statement}
 use Rattle.switch.proofs.displacement.Tie as tie

@@ -1,6 +1,6 @@
 -- `switch::fifth_timed` meets its contract. The invariant: the count so far and the timed blocks from m on make the whole. Assumes nothing.
-use Prim.Native.Nat.{_+_, _-_, _*_, _%_, _≤_}
-use mathlib.Core.Path.{_≡_, refl, sym, ap, _∙_}
+use Prim.Native.Nat.{_+_, _-_, _%_, _≤_}
+use mathlib.Core.Path.{_≡_, sym, ap, _∙_}
 use native.Mathlib.Nat.{add-zero}
 use native.Mathlib.Omega.{arith}
 use lib.Dec.{leb}

@@ -1,9 +1,9 @@
 -- `switch::last_pulse` meets its contract: the smaller of Q − 1 and the quotient. Assumes nothing.
 use Rattle.switch.specs.Parts.{lastPulse}
 use native.Mathlib.Omega.{arith}
-use native.Mathlib.Nat.{div-zero, mul-le-mul, min-zero, min-eq-left, min-eq-right}
-use mathlib.Core.Path.{_≡_, sym, _∙_}
-use Prim.Native.Nat.{_+_, _-_, _*_, _/_, min}
+use native.Mathlib.Nat.{div-zero, mul-le-mul, min-zero, min-eq-left}
+use mathlib.Core.Path.{_≡_, sym}
+use Prim.Native.Nat.{_+_, _-_, _*_}
 use borrow.Author.Needs.{needs}
 use Rattle.switch.proofs.last_pulse.Statement.{statement}
 use Rattle.switch.proofs.last_pulse.Tie as tie

@@ -1,5 +1,4 @@
 -- `switch::length_bad` meets its contract: by the type. Assumes nothing.
-use Prim.Native.Nat.{_%_}
 use mathlib.Core.Path.{sym, _∙_}
 use borrow.Author.Tests.{eq-eqb, ne-eqb}
 use Rattle.switch.specs.Parts.{lengthBit}

@@ -1,5 +1,4 @@
 -- `switch::moved_by` meets its contract: in range by one comparison, else by the remainder. Assumes nothing.
-use Rattle.switch.specs.Parts.{movedBy}
 use native.Mathlib.Omega.{arith}
 use native.Mathlib.Nat.{mod-eq-of-lt, add-mod-right}
 use mathlib.Core.Path.{_≡_, sym, _∙_}
@@ -24,7 +23,6 @@ add-result : tie.Need-add-result
 add-result c = search needs
 
 returns-3 : tie.Need-returns-3
-unfolding movedBy
 returns-3 c = sym (mod-eq-of-lt (omega arith))
 
 sub-result : tie.Need-sub-result
@@ -34,7 +32,6 @@ sub-result-2 : tie.Need-sub-result-2
 sub-result-2 c = search needs
 
 returns-4 : tie.Need-returns-4
-unfolding movedBy
 returns-4 c =
     let x = c .before .before .before .args in
     let r = x .setpoint - (x .top - x .by) - 1 in

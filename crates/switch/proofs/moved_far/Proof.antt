@@ -1,5 +1,4 @@
 -- `switch::moved_far` meets its contract: the rule as it stands. Assumes nothing.
-use Rattle.switch.specs.Parts.{movedBy}
 use Rattle.rules.proofs.Laws.{mod-below}
 use native.Mathlib.Omega.{arith}
 use mathlib.Core.Path.{refl}
@@ -21,7 +20,6 @@ cast-result : tie.Need-cast-result
 cast-result c = omega (arith, mod-below (c .args .setpoint + c .args .by) (c .args .top))
 
 returns : tie.Need-returns
-unfolding movedBy
 returns c = refl
 
 pub moved-far-spec : {M : Type 1} → statement M

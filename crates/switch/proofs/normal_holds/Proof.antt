@@ -1,7 +1,6 @@
 -- `switch::normal_holds` meets its contract: both displacements, then the loop. Assumes nothing.
 use Rattle.switch.proofs.Pairs.{some-moved}
 use Rattle.rules.specs.Motion.{travelValue}
-use Prim.Native.Nat.{_+_}
 use borrow.Author.Needs.{needs}
 use Rattle.switch.proofs.normal_holds.Statement.{statement}
 use Rattle.switch.proofs.normal_holds.Tie as tie

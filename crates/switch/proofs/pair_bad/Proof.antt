@@ -1,5 +1,5 @@
 -- `switch::pair_bad` meets its contract: by the three tests. Assumes nothing.
-use Prim.Native.Nat.{_+_, _≤_}
+use Prim.Native.Nat.{_+_}
 use native.Mathlib.Omega.{arith}
 use borrow.Author.Tests.{le-leb, lt-leb, eq-eqb, ne-eqb}
 use Rattle.rules.specs.Programming.{pairBad}

@@ -1,7 +1,6 @@
 -- `switch::pair_holds` meets its contract: both setpoints by their displacements. Assumes nothing.
 use Rattle.switch.proofs.Pairs.{pair-moved}
 use Rattle.rules.specs.Motion.{travelValue}
-use Prim.Native.Nat.{_+_}
 use borrow.Author.Needs.{needs}
 use Rattle.switch.proofs.pair_holds.Statement.{statement}
 use Rattle.switch.proofs.pair_holds.Tie as tie

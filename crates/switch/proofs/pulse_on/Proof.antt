@@ -3,7 +3,6 @@ use Rattle.switch.proofs.Train.{pulse-decided}
 use Rattle.rules.specs.Switches.{pulseOn}
 use Rattle.rules.specs.Words.{someOf}
 use native.Mathlib.Omega.{arith}
-use mathlib.Core.Path.{_≡_}
 use borrow.Author.Needs.{needs}
 use Rattle.switch.proofs.pulse_on.Statement.{statement}
 use Rattle.switch.proofs.pulse_on.Tie as tie

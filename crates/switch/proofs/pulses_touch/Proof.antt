@@ -1,6 +1,6 @@
 -- `switch::pulses_touch` meets its contract: the pulses in order, then the last against the first round the turn. Assumes nothing.
 use native.Mathlib.Numerals.{add-one}
-use mathlib.Core.Path.{_≡_, sym, _∙_}
+use mathlib.Core.Path.{sym, _∙_}
 use Rattle.rules.specs.Programming.{pulsesTouch}
 use Rattle.switch.specs.Parts.{someTouch, touchesNext}
 use borrow.Author.Needs.{needs}

@@ -1,7 +1,5 @@
 -- `switch::timed_left` meets its contract: by the three tests. Assumes nothing.
 use Rattle.switch.specs.Parts.{timedLeft}
-use native.Mathlib.Omega.{arith}
-use mathlib.Core.Path.{_≡_, sym}
 use borrow.Author.Needs.{needs}
 use Rattle.switch.proofs.timed_left.Statement.{statement}
 use Rattle.switch.proofs.timed_left.Tie as tie

@@ -1,11 +1,11 @@
--- `switch::word_of` meets its contract: five binary digits, at most 62. Assumes nothing.
+-- `switch::error_word` meets its contract: five binary digits, at most 62. Assumes nothing.
 use Prim.Native.Nat.{_+_, _*_, _≤_}
 use native.Mathlib.Omega.{arith}
 use mir.Val.{boolByte}
 use Rattle.switch.proofs.Ranges.{byte-digit, byte-small}
 use borrow.Author.Needs.{needs}
-use Rattle.switch.proofs.word_of.Statement.{statement}
-use Rattle.switch.proofs.word_of.Tie as tie
+use Rattle.switch.proofs.error_word.Statement.{statement}
+use Rattle.switch.proofs.error_word.Tie as tie
 
 low : (c : tie.Start) →
     (let x = c .args in
@@ -59,8 +59,8 @@ mul-result-5 c = omega (arith, low c)
 returns : tie.Need-returns
 returns c = simp byte-digit (omega arith)
 
-pub word-of-spec : {M : Type 1} → statement M
-word-of-spec =
+pub error-word-spec : {M : Type 1} → statement M
+error-word-spec =
     tie.close
     (tie.spec
     cast-result

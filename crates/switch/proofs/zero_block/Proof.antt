@@ -1,5 +1,5 @@
--- `switch::zero` meets its contract. The invariant: no word before k is set, so that all are 0 where those from k on are. Assumes nothing.
-use Prim.Native.Nat.{_+_, _-_, _*_, _≤_}
+-- `switch::zero_block` meets its contract. The invariant: no word before k is set, so that all are 0 where those from k on are. Assumes nothing.
+use Prim.Native.Nat.{_-_, _≤_}
 use mathlib.Core.Path.{_≡_, refl, sym}
 use native.Mathlib.Nat.{zero-add}
 use native.Mathlib.Omega.{arith}
@@ -9,8 +9,8 @@ use Rattle.rules.specs.Words.{eachOf}
 use Rattle.rules.specs.Programming.{limitWord, allZero}
 use Rattle.switch.proofs.Ranges.{each-failed, each-passed}
 use borrow.Author.Needs.{needs}
-use Rattle.switch.proofs.zero.Statement.{statement}
-use Rattle.switch.proofs.zero.Tie as tie
+use Rattle.switch.proofs.zero_block.Statement.{statement}
+use Rattle.switch.proofs.zero_block.Tie as tie
 
 abbrev Inv-loop : tie.InvT-loop
 Inv-loop b k₀ k = (k ≤ 19) × (allZero b 0 ≡ eachOf (19 - k) k (λ j. eqb (limitWord b 0 j) 0))
@@ -51,8 +51,8 @@ returns-2 c =
     let z : l .k ≡ 19 = omega arith in
     sym (rw z at (l .inv .1))
 
-pub zero-spec : {M : Type 1} → statement M
-zero-spec =
+pub zero-block-spec : {M : Type 1} → statement M
+zero-block-spec =
     tie.close
     (tie.spec
     Inv-loop

@@ -1,9 +1,9 @@
--- `switch::limit_of` meets its contract: part by part. Assumes nothing.
+-- `switch::limit_of_block` meets its contract: part by part. Assumes nothing.
 use Rattle.rules.specs.Words.{bit}
 use Rattle.switch.specs.Parts.{limitOfBlock}
 use borrow.Author.Needs.{needs}
-use Rattle.switch.proofs.limit_of.Statement.{statement}
-use Rattle.switch.proofs.limit_of.Tie as tie
+use Rattle.switch.proofs.limit_of_block.Statement.{statement}
+use Rattle.switch.proofs.limit_of_block.Tie as tie
 
 switch-of-requires : tie.Need-switch-of-requires
 switch-of-requires c κs = search needs
@@ -37,8 +37,8 @@ unfolding limitOfBlock bit
 returns c =
     rw (c .setpoints-of .ensures, c .before .advance-of2 .ensures, c .before .before .advance-of .ensures, c .before .before .before .anded-of .ensures, c .before .before .before .before .switch-of .ensures)
 
-pub limit-of-spec : {M : Type 1} → statement M
-limit-of-spec =
+pub limit-of-block-spec : {M : Type 1} → statement M
+limit-of-block-spec =
     tie.close
     (tie.spec
     switch-of-requires

@@ -1,16 +1,16 @@
 -- Laws of the rules' words: the digits of `packed`, bits of a bitwise operation, counts over bits, words stored into a file. Callers cite these and open none of the definitions.
 -- Assumes nothing.
 use Prim.Native.Nat.{ℕ, zero, suc, _+_, _*_, _/_, _%_, _-_, _^_, _≤_, _<_, min, max}
-use mathlib.Core.Bool.{Bool, true, false, not, _&&_, _||_, xor}
+use mathlib.Core.Bool.{Bool, true, false, cond, not, _&&_, _||_, xor}
 use mathlib.Core.List.{List, [], _∷_}
 use mathlib.Core.Path.{_≡_, refl, sym, ap, ap₂, _∙_}
 use native.Mathlib.Nat.{lt-of-lt-of-le, lt-of-le-of-lt, zero-add, pow-suc, mul-comm, div-div-eq-div-mul, div-eq-of-lt}
 use native.Mathlib.Numerals.{add-one}
 use native.Mathlib.Omega.{arith}
-use lib.Dec.{eqb, eqb·suc-zero}
+use lib.Dec.{leb, eqb, eqb·suc-zero}
 use lib.ListN.{length, getD, take, set, length-set}
 use lib.Pow.{pow-mono}
-use borrow.Author.Tests.{eq-eqb, ne-eqb}
+use borrow.Author.Tests.{le-leb, eq-eqb, ne-eqb}
 use lib.Bits.{bitAnd, bitOr, bitXor, and-step, or-step, xor-step, and-shr, or-shr, xor-shr, and-le-l, differ}
 use lib.Count.{ones, ones-step}
 use mir.Val.{boolByte}
@@ -150,6 +150,19 @@ or-bit = op-bit bitOr max _||_ or-step or-shr or-digit
 pub xor-bit : (a b k : ℕ) → bit (bitXor a b) k ≡ xor (bit a k) (bit b k)
 xor-bit = op-bit bitXor differ xor xor-step xor-shr xor-digit
 
+-- a word turned over
+xor-true : (b : Bool) → xor b true ≡ not b
+unfolding xor
+xor-true true = refl
+xor-true false = refl
+
+all-bits : (k : ℕ) → k < 16 → bit 65535 k ≡ true
+unfolding packed
+all-bits k h = packed-bit 16 0 k (λ n. true) h
+
+pub not-bit : (w k : ℕ) → k < 16 → bit (bitXor w 65535) k ≡ not (bit w k)
+not-bit w k h = xor-bit w 65535 k ∙ rw (all-bits k h) (xor-true (bit w k))
+
 -- a mask laid over a word
 pub and-packed : (n w : ℕ) (f : ℕ → Bool) → bitAnd (packed n 0 f) w ≡ packed n 0 (λ k. f k && bit w k)
 and-packed n w f =
@@ -221,6 +234,10 @@ pub length-stored : (at : ℕ) (ws file : List ℕ) → length (storedAt at ws f
 unfolding storedAt
 length-stored at [] file = refl
 length-stored at (w ∷ ws) file = length-stored (at + 1) ws (set file at w) ∙ length-set file at w
+
+-- where they all lie in the file
+pub stored-whole : (at : ℕ) (ws file : List ℕ) → at + length ws ≤ length file → cond (leb (at + length ws) (length file)) (storedAt at ws file) file ≡ storedAt at ws file
+stored-whole at ws file h = rw (le-leb (at + length ws) (length file) h)
 
 -- one word more
 pub stored-more : (at k : ℕ) (ws file : List ℕ) → k < length ws → storedAt at (take (suc k) ws) file ≡ set (storedAt at (take k ws) file) (at + k) (getD ws k 0)

@@ -1,0 +1,168 @@
+-- Laws of the rules of motion: the word of the active real inputs, remainders as naturals, bounds of the products, and the signed numbers that the state's unsigned ones stand for.
+-- Assumes nothing.
+use Prim.Native.Nat.{ℕ, zero, suc, _+_, _-_, _*_, _%_, _^_, _≤_, _<_}
+use mathlib.Core.Bool.{Bool, true, false, not, _&&_, _||_, xor, Bool·beq}
+use mathlib.Core.Path.{_≡_, refl, sym, ap, ap₂, _∙_}
+use native.Mathlib.Nat.{mul-le-mul, zero-add}
+use native.Mathlib.Numerals.{add-one}
+use native.Mathlib.Omega.{arith}
+use borrow.Author.Tests.{ltb-true, ltb-false, lt-ltb, le-ltb, leb-false, ne-eqb}
+use lib.Bits.{bitAnd, bitOr, bitXor}
+use lib.Dec.{ltb, leb, eqb, leb·zero, leb·suc-suc, eqb·suc-zero}
+use lib.IntN.{ℤ, pos, negsuc, natAbs, subℕ, _+ℤ_, _-ℤ_}
+use Rattle.rules.specs.declared.Model.{Model}
+use Rattle.rules.specs.declared.Model.the-variants.{M8511, M8512, M8513}
+use Rattle.rules.specs.declared.IoType.{IoType}
+use Rattle.rules.specs.declared.IoType.the-variants.{Real, Virtual}
+use Rattle.rules.specs.declared.DecimalCode.{DecimalCode}
+use Rattle.rules.specs.declared.DecimalCode.the-variants.{Code0, Code1, Code2, Code3}
+use Rattle.rules.specs.declared.Last.the-variants.{At}
+use Rattle.rules.specs.declared.Setup.{Setup}
+use Rattle.rules.specs.declared.Sample.{Sample}
+use Rattle.rules.specs.declared.Travel.{Travel}
+use Rattle.rules.specs.declared.Window.{Window}
+use Rattle.rules.specs.Words.{bit, wordOf}
+use Rattle.rules.specs.Motion.{realCount, realInput, inputLevel, turned, scaledPosition, movement, rpmOf, codeNumber, signed, travelValue}
+use Rattle.rules.specs.Card.{biasedMovement, updates, travelOf}
+use Rattle.rules.proofs.Laws.{modulo-natural}
+use Rattle.word.proofs.Laws.{and-bit, or-bit, xor-bit, not-bit, and-packed, packed-same, packed-bit, packed-lt, bit-past}
+use Rattle.motion.specs.Level.{levelIn}
+
+-- ---- Inputs
+
+not-xor : (x y : Bool) → not (xor x y) ≡ Bool·beq x y
+unfolding xor
+not-xor true true = refl
+not-xor true false = refl
+not-xor false true = refl
+not-xor false false = refl
+
+-- the word of the active real inputs, made of whole words
+pub inputs-word : (m : Model) (u : Setup) (s : Sample) →
+    bitAnd (wordOf 0 (λ n. ltb n (realCount m))) (bitAnd (bitXor (s .inputsoff) 65535) (bitOr (s .inputson) (bitXor (bitXor (s .currents) (u .states)) 65535)))
+    ≡ wordOf 0 (realInput m u s)
+unfolding realInput
+inputs-word m u s =
+    let same : ℕ = bitXor (s .currents) (u .states) in
+    let active : ℕ = bitXor (bitXor (s .currents) (u .states)) 65535 in
+    let off : ℕ = bitXor (s .inputsoff) 65535 in
+    let on : ℕ = bitOr (s .inputson) active in
+    and-packed 16 (bitAnd off on) (λ n. ltb n (realCount m))
+    ∙ packed-same 16 0 (λ n. ltb n (realCount m) && bit (bitAnd off on) n) (realInput m u s)
+    (λ k a h. ap (λ (b : Bool). ltb k (realCount m) && b)
+    (and-bit off on k
+    ∙ ap₂ _&&_ (not-bit (s .inputsoff) k h)
+    (or-bit (s .inputson) active k
+    ∙ ap (λ (b : Bool). bit (s .inputson) k || b) (not-bit same k h ∙ ap not (xor-bit (s .currents) (u .states) k) ∙ not-xor (bit (s .currents) k) (bit (u .states) k)))))
+
+count-le : (m : Model) → realCount m ≤ 16
+unfolding realCount
+count-le M8511 = omega arith
+count-le M8512 = omega arith
+count-le M8513 = omega arith
+
+by-place : (m : Model) (u : Setup) (s : Sample) (n : ℕ) (below : Bool) → ltb n 16 ≡ below → bit (wordOf 0 (realInput m u s)) n ≡ realInput m u s n
+unfolding realInput
+by-place m u s n true h = packed-bit 16 0 n (realInput m u s) (ltb-true n 16 h) ∙ ap (realInput m u s) (zero-add n)
+by-place m u s n false h =
+    let l : 16 ≤ n = ltb-false n 16 h in
+    let e : ltb n (realCount m) ≡ false = le-ltb n (realCount m) (omega (arith, count-le m)) in
+    bit-past (wordOf 0 (realInput m u s)) n 16 (packed-lt 16 0 (realInput m u s)) l ∙ rw e
+
+-- its bits are the rule's, at every n
+pub real-bit : (m : Model) (u : Setup) (s : Sample) (n : ℕ) → bit (wordOf 0 (realInput m u s)) n ≡ realInput m u s n
+real-bit m u s n = by-place m u s n (ltb n 16) refl
+
+-- `level` over that word is the rule's level
+pub level-is : (m : Model) (u : Setup) (s : Sample) (kind : IoType) (n : ℕ) → levelIn (wordOf 0 (realInput m u s)) (s .virtuals) kind n ≡ inputLevel m u s kind n
+unfolding inputLevel
+level-is m u s Real n = real-bit m u s n
+level-is m u s Virtual n = refl
+
+-- ---- Positions and movement
+
+pub turned-natural : (raw : ℕ) → turned true raw ≡ (1024 - raw % 1024) % 1024
+unfolding turned
+turned-natural raw = modulo-natural 1024 raw 1023 ∙ omega arith
+
+-- the scaled position of any q and SF of 16 bits
+pub scaled-le : (top q : ℕ) → top < 65536 → q < 65536 → scaledPosition (top + 1) q ≤ 4194240
+unfolding scaledPosition
+scaled-le top q a b = omega (arith, mul-le-mul {n₁ = q} {m₁ = top + 1} {n₂ = 65535} {m₂ = 65536} (omega arith) (omega arith))
+
+by-order : (a b k : ℕ) (s t : Bool) → ltb a b ≡ s → ltb (a + k) b ≡ t → subℕ a b +ℤ pos k ≡ subℕ (a + k) b
+by-order a b k true true g h =
+    let l : a < b = ltb-true a b g in
+    let m : a + k < b = ltb-true (a + k) b h in
+    rw (g, h, lt-ltb k (suc (b - suc a)) (omega arith)) (ap negsuc (omega arith))
+by-order a b k true false g h =
+    let l : a < b = ltb-true a b g in
+    let m : b ≤ a + k = ltb-false (a + k) b h in
+    rw (g, h, le-ltb k (suc (b - suc a)) (omega arith)) (ap pos (omega arith))
+by-order a b k false t g h =
+    let l : b ≤ a = ltb-false a b g in
+    rw (g, le-ltb (a + k) b (omega arith)) (ap pos (omega arith))
+
+-- (a − b) + k
+pub difference-add : (a b k : ℕ) → subℕ a b +ℤ pos k ≡ subℕ (a + k) b
+difference-add a b k = by-order a b k (ltb a b) (ltb (a + k) b) refl refl
+
+pub biased-natural : (last q : ℕ) → biasedMovement (At last) q ≡ (q + (1024 - last % 1024) + 512) % 1024
+unfolding biasedMovement
+biased-natural last q = rw (difference-add q last 512) (modulo-natural (q + 512) last 1023 ∙ omega arith)
+
+-- 01's movement, with its sign
+pub movement-biased : (last q : ℕ) → pos (biasedMovement (At last) q) -ℤ pos 512 ≡ movement q last
+unfolding biasedMovement movement
+movement-biased last q = refl
+
+-- ---- Windows
+
+pub updates-natural : (size : ℕ) (w : Window) → leb size (w .steps + 1) ≡ updates size w
+unfolding updates
+updates-natural zero w = leb·zero (w .steps + 1) ∙ sym (leb·zero (w .steps))
+updates-natural (suc n) w =
+    let e : suc n - 1 ≡ n = omega arith in
+    rw (add-one (w .steps), e) (leb·suc-suc n (w .steps))
+
+-- before its last step a window has room for one more
+pub steps-below : (size : ℕ) (w : Window) → updates size w ≡ false → w .steps + 1 < size
+unfolding updates
+steps-below size w h = omega (arith, leb-false (size - 1) (w .steps) h)
+
+by-sign : (size sum : ℕ) (t : Bool) → ltb sum (512 * size) ≡ t → travelValue (travelOf size sum) ≡ subℕ sum (512 * size)
+unfolding travelOf
+by-sign size sum true e =
+    let h : sum < 512 * size = ltb-true sum (512 * size) e in
+    let d : 512 * size - sum ≡ suc (512 * size - suc sum) = omega arith in
+    rw (e, d)
+by-sign size sum false e = rw e
+
+-- 01's c and C, with their sign: the sum less the 512 of each step
+pub travel-value : (size sum : ℕ) → travelValue (travelOf size sum) ≡ subℕ sum (512 * size)
+travel-value size sum = by-sign size sum (ltb sum (512 * size)) refl
+
+signed-size : (negative : Bool) (n : ℕ) → natAbs (signed negative n) ≡ n
+signed-size true zero = refl
+signed-size true (suc n) = refl
+signed-size false n = refl
+
+pub travel-size : (t : Travel) → natAbs (travelValue t) ≡ t .counts
+travel-size t = signed-size (t .negative) (t .counts)
+
+pub rpm-travel : (fast : Bool) (t : Travel) → rpmOf fast (travelValue t) ≡ rpmOf fast (pos (t .counts))
+unfolding rpmOf
+rpm-travel fast t = rw (travel-size t)
+
+-- ---- Tachometer and detectors
+
+pub power-range : (code : DecimalCode) → (0 < 10 ^ codeNumber code) × (10 ^ codeNumber code ≤ 1000)
+power-range Code0 = (omega arith, omega arith)
+power-range Code1 = (omega arith, omega arith)
+power-range Code2 = (omega arith, omega arith)
+power-range Code3 = (omega arith, omega arith)
+
+-- not both are 0
+pub not-both : (a b : ℕ) → (a + b ≡ 0 → ⊥) → eqb a 0 && eqb b 0 ≡ false
+not-both zero b h = ne-eqb b 0 (λ e. h (omega arith))
+not-both (suc a) b h = rw (eqb·suc-zero a)

@@ -1,0 +1,30 @@
+-- `motion::present` meets its contract: each word is computed. Assumes nothing.
+use borrow.Author.Needs.{needs}
+use Rattle.rules.specs.Words.{packed}
+use Rattle.rules.specs.Motion.{realCount}
+use Rattle.motion.proofs.present.Statement.{statement}
+use Rattle.motion.proofs.present.Tie as tie
+
+enum-told : tie.Need-enum-told
+enum-told c = search needs
+
+enum-told-2 : tie.Need-enum-told-2
+enum-told-2 c = search needs
+
+enum-told-3 : tie.Need-enum-told-3
+enum-told-3 c = search needs
+
+returns : tie.Need-returns
+unfolding packed realCount
+returns c = rw (c .enum-told .given .1)
+
+returns-2 : tie.Need-returns-2
+unfolding packed realCount
+returns-2 c = rw (c .enum-told2 .given .1)
+
+returns-3 : tie.Need-returns-3
+unfolding packed realCount
+returns-3 c = rw (c .enum-told3 .given .1)
+
+pub present-spec : {M : Type 1} → statement M
+present-spec = tie.close (tie.spec enum-told enum-told-2 enum-told-3 returns returns-2 returns-3)

@@ -6,9 +6,9 @@ use lib.Dec.{eqb}
 use Rattle.rules.specs.declared.Model.{Model}
 use Rattle.rules.specs.declared.Configuration.{Configuration}
 use Rattle.rules.specs.declared.Decided.{Decided}
-use Rattle.rules.specs.declared.Refusal.the-variants.{GroupData}
+use Rattle.rules.specs.declared.Refusal.the-variants.{SetupData, GroupData, LimitData}
 use Rattle.rules.specs.Words.{table, lowestOf}
-use Rattle.rules.specs.Programming.{groupBits, groupOf, withGroups, stands, judged}
+use Rattle.rules.specs.Programming.{setupOf, withSetup, groupBits, groupOf, withGroups, stands, judged}
 
 -- the lowest of the six groups that fails its checks, 0 if none does
 abbrev pub lowestFailing : Model → ℕ → List ℕ → ℕ
@@ -18,3 +18,7 @@ lowestFailing m sf file = lowestOf 6 1 (λ n. not (eqb (groupBits m sf file n) 0
 abbrev pub groupJudged : List ℕ → ℕ → Configuration → Decided
 groupJudged file errors g =
     judged (stands (g .errors) || g .programming .setup .independent) errors GroupData (withGroups (g .programming) (table 6 1 (groupOf file))) g
+
+-- an acting setup cycle, where its check found `errors`
+abbrev pub setupJudged : List ℕ → ℕ → Configuration → Decided
+setupJudged file errors g = judged (stands (g .errors)) errors SetupData (withSetup (g .programming) (setupOf file (g .raw))) g

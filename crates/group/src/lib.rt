@@ -4,7 +4,6 @@ ghost use mathlib.Core.Path.{_≡_};
 ghost use mathlib.Core.Bool.{cond, not, _&&_, _||_};
 ghost use mathlib.Core.List.{[], _∷_};
 ghost use Prim.Native.Nat.{_+_, _%_};
-ghost use lib.Dec.{leb};
 ghost use Rattle.rules.specs.Words as words;
 ghost use Rattle.rules.specs.Motion as motion;
 ghost use Rattle.rules.specs.Groups as groups;
@@ -35,6 +34,8 @@ pub struct GroupStep {
     pub state: GroupState,
     pub position: GroupPosition,
 }
+
+// ---- A group's step
 
 // (a + b) mod SF. In range one comparison and one subtraction, else the remainder.
 fn sum(top: u16, a: u16, b: u16) -> u16
@@ -277,6 +278,7 @@ fn type_of(set: bool) -> IoType
     IoType::Real
 }
 
+// The type is real.
 fn is_real(t: IoType) -> bool
     ensures { λ r. ⌜ r ≡ programming.sameType IoType.Real t ⌝ }
 {
@@ -286,6 +288,7 @@ fn is_real(t: IoType) -> bool
     }
 }
 
+// Two types are the same.
 fn same_type(a: IoType, b: IoType) -> bool
     ensures { λ r. ⌜ r ≡ programming.sameType a b ⌝ }
 {
@@ -399,13 +402,6 @@ fn program_bad(m: Model, file: &[u16], n: u16) -> bool
         | (room < dealt_up_to(file, kind, n))
 }
 
-// A pair that may not be programmed: a setpoint outside 0 to SF − 1, or equal and not zero.
-fn pair_bad(top: u16, on: u16, off: u16) -> bool
-    ensures { λ r. ⌜ r ≡ programming.pairBad (top + 1) on off ⌝ }
-{
-    (top < on) | (top < off) | ((on == off) & !(on == 0))
-}
-
 // A word of three bits, bit 0 first.
 fn three_bits(a: bool, b: bool, c: bool) -> u16
     ensures { λ r. ⌜ r ≡ words.bits (a ∷ b ∷ c ∷ []) ⌝ }
@@ -422,7 +418,7 @@ pub fn group_bits(m: Model, top: u16, file: &[u16], n: u16) -> u16
     }
     let offset = top < group_word(file, n, 3);
     let program = program_bad(m, file, n);
-    let channel = pair_bad(top, group_word(file, n, 1), group_word(file, n, 2));
+    let channel = switch::pair_bad(top, group_word(file, n, 1), group_word(file, n, 2));
     three_bits(offset, program, channel)
 }
 

@@ -1,3 +1,17 @@
 pub mod Laws
 pub mod Cases
 pub mod Refusals
+pub mod Past
+pub mod Stretch
+pub mod GroupPast
+pub mod Timed
+pub mod Windows
+pub mod Cycles
+pub mod Packing
+pub mod Programs
+pub mod Agreement
+pub mod Theorem
+pub mod Ranges
+pub mod Reachable
+pub mod Reading
+pub mod Runs

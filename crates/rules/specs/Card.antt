@@ -40,6 +40,7 @@ use Rattle.rules.specs.Motion.{levelOf, scaleFactor, turned, machineAt, 
 use Rattle.rules.specs.Groups.{groupAt, dwellHolds, groupPosition, presetShift, presets, edge, stops, running, isOpen}
 use Rattle.rules.specs.Switches.{pairHolds, timedSteps, Conditions, limitOf, switchPosition, outputRule, outputOn, soundAnswer, faultAnswer}
 use Rattle.rules.specs.Programming.{freshConfiguration, modelKnown, modelOf, setupCycle, setupFile, groupCycle, groupFile, limitCycle, limitFile, nudgeCycle, sound, stepConfiguration}
+pub use Rattle.rules.specs.Programming.{isAccepted}
 
 -- ---- Speed
 
@@ -271,11 +272,6 @@ soundState g x s = record {
 }
 
 -- ---- The public calls
-
-abbrev pub isAccepted : Outcome → Bool
-isAccepted Idle = false
-isAccepted Accepted = true
-isAccepted (Refused r) = false
 
 -- power-up; on refusal 3 the module's place holds an 8511's defaults
 unfoldable pub freshModule : Model → Module

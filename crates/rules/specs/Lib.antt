@@ -4,5 +4,9 @@ pub mod Groups
 pub mod Switches
 pub mod Programming
 pub mod Card
+pub mod Quant
+pub mod Calls
+pub mod History
+pub mod Run
 pub mod Trace
 pub mod Cases

@@ -62,6 +62,11 @@ outcomeNumber Idle = 0
 outcomeNumber Accepted = 0
 outcomeNumber (Refused r) = numberOf r
 
+abbrev pub isAccepted : Outcome → Bool
+isAccepted Idle = false
+isAccepted Accepted = true
+isAccepted (Refused r) = false
+
 -- "M0 is 120 words, M1 650."
 abbrev pub m0Length : ℕ
 m0Length = 120

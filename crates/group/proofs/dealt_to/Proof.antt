@@ -28,7 +28,7 @@ array-copy-out-g : tie.Need-array-copy-out-g Inv-loop μ-loop
 array-copy-out-g c = search needs
 
 share-requires : tie.Need-share-requires Inv-loop μ-loop
-share-requires c κs = search needs
+share-requires c κs = tt
 
 add-k : tie.Need-add-k Inv-loop μ-loop
 add-k c = search needs

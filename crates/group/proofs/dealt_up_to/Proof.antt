@@ -22,10 +22,10 @@ add-k : tie.Need-add-k Inv-loop μ-loop
 add-k c = search needs
 
 group-of-requires : tie.Need-group-of-requires Inv-loop μ-loop
-group-of-requires c κs = search needs
+group-of-requires c κs = tt
 
 share-requires : tie.Need-share-requires Inv-loop μ-loop
-share-requires c κs = search needs
+share-requires c κs = tt
 
 cast-dealt : tie.Need-cast-dealt Inv-loop μ-loop
 cast-dealt c = search needs

@@ -1,11 +1,10 @@
 -- `group::dwell_holds` meets its contract: the pair at the position. Assumes nothing.
 use Rattle.rules.specs.Groups.{dwellHolds}
-use borrow.Author.Needs.{needs}
 use Rattle.group.proofs.dwell_holds.Statement.{statement}
 use Rattle.group.proofs.dwell_holds.Tie as tie
 
 holds-requires : tie.Need-holds-requires
-holds-requires c κs = search needs
+holds-requires c κs = tt
 
 returns : tie.Need-returns
 unfolding dwellHolds

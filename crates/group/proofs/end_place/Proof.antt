@@ -1,13 +1,12 @@
 -- `group::end_place` meets its contract: anew where the edge is taken. Assumes nothing.
-use borrow.Author.Needs.{needs}
 use Rattle.group.proofs.end_place.Statement.{statement}
 use Rattle.group.proofs.end_place.Tie as tie
 
 preset-shift-requires : tie.Need-preset-shift-requires
-preset-shift-requires c κs = search needs
+preset-shift-requires c κs = tt
 
 place-by-requires : tie.Need-place-by-requires
-place-by-requires c κs = search needs
+place-by-requires c κs = tt
 
 returns : tie.Need-returns
 returns c = rw (c .before .before .if1 .taken, c .place-by .ensures, c .before .preset-shift .ensures)

@@ -2,37 +2,36 @@
 use borrow.Author.Tests.{not-true, not-false}
 use Rattle.rules.specs.Programming.{groupBits}
 use Rattle.group.proofs.Laws.{over-top}
-use borrow.Author.Needs.{needs}
 use Rattle.group.proofs.group_bits.Statement.{statement}
 use Rattle.group.proofs.group_bits.Tie as tie
 
 group-word-requires : tie.Need-group-word-requires
-group-word-requires c κs = search needs
+group-word-requires c κs = tt
 
 bit-requires : tie.Need-bit-requires
-bit-requires c κs = search needs
+bit-requires c κs = tt
 
 returns : tie.Need-returns
 unfolding groupBits
 returns c = rw (← c .before .before .group-word .ensures, ← c .before .bit .ensures, not-true (c .before .bit .result) (c .if1 .taken))
 
 group-word-requires-2 : tie.Need-group-word-requires-2
-group-word-requires-2 c κs = search needs
+group-word-requires-2 c κs = tt
 
 program-bad-requires : tie.Need-program-bad-requires
-program-bad-requires c κs = search needs
+program-bad-requires c κs = tt
 
 group-word-requires-3 : tie.Need-group-word-requires-3
-group-word-requires-3 c κs = search needs
+group-word-requires-3 c κs = tt
 
 group-word-requires-4 : tie.Need-group-word-requires-4
-group-word-requires-4 c κs = search needs
+group-word-requires-4 c κs = tt
 
 pair-bad-requires : tie.Need-pair-bad-requires
-pair-bad-requires c κs = search needs
+pair-bad-requires c κs = tt
 
 three-bits-requires : tie.Need-three-bits-requires
-three-bits-requires c κs = search needs
+three-bits-requires c κs = tt
 
 returns-2 : tie.Need-returns-2
 unfolding groupBits

@@ -1,49 +1,48 @@
 -- `group::group_of` meets its contract: word by word. Assumes nothing.
 use borrow.Author.Tests.{not-true, not-false}
 use Rattle.rules.specs.Programming.{groupOf}
-use borrow.Author.Needs.{needs}
 use Rattle.group.proofs.group_of.Statement.{statement}
 use Rattle.group.proofs.group_of.Tie as tie
 
 group-word-requires : tie.Need-group-word-requires
-group-word-requires c κs = search needs
+group-word-requires c κs = tt
 
 bit-requires : tie.Need-bit-requires
-bit-requires c κs = search needs
+bit-requires c κs = tt
 
 returns : tie.Need-returns
 unfolding groupOf
 returns c = rw (← c .before .before .group-word .ensures, ← c .before .bit .ensures, not-true (c .before .bit .result) (c .if1 .taken))
 
 bit-requires-2 : tie.Need-bit-requires-2
-bit-requires-2 c κs = search needs
+bit-requires-2 c κs = tt
 
 type-of-requires : tie.Need-type-of-requires
-type-of-requires c κs = search needs
+type-of-requires c κs = tt
 
 bit-requires-3 : tie.Need-bit-requires-3
-bit-requires-3 c κs = search needs
+bit-requires-3 c κs = tt
 
 type-of-requires-2 : tie.Need-type-of-requires-2
-type-of-requires-2 c κs = search needs
+type-of-requires-2 c κs = tt
 
 mode-number-requires : tie.Need-mode-number-requires
-mode-number-requires c κs = search needs
+mode-number-requires c κs = tt
 
 mode-of-requires : tie.Need-mode-of-requires
-mode-of-requires c κs = search needs
+mode-of-requires c κs = tt
 
 group-word-requires-2 : tie.Need-group-word-requires-2
-group-word-requires-2 c κs = search needs
+group-word-requires-2 c κs = tt
 
 group-word-requires-3 : tie.Need-group-word-requires-3
-group-word-requires-3 c κs = search needs
+group-word-requires-3 c κs = tt
 
 quantity-requires : tie.Need-quantity-requires
-quantity-requires c κs = search needs
+quantity-requires c κs = tt
 
 group-word-requires-4 : tie.Need-group-word-requires-4
-group-word-requires-4 c κs = search needs
+group-word-requires-4 c κs = tt
 
 returns-2 : tie.Need-returns-2
 unfolding groupOf

@@ -1,11 +1,10 @@
 -- `group::group_position` meets its contract: the sum modulo SF. Assumes nothing.
 use Rattle.rules.specs.Groups.{groupPosition}
-use borrow.Author.Needs.{needs}
 use Rattle.group.proofs.group_position.Statement.{statement}
 use Rattle.group.proofs.group_position.Tie as tie
 
 sum-requires : tie.Need-sum-requires
-sum-requires c κs = search needs
+sum-requires c κs = tt
 
 returns : tie.Need-returns
 unfolding groupPosition

@@ -9,7 +9,6 @@ use Rattle.rules.specs.Groups.{presetShift}
 use Rattle.rules.specs.Card.{groupAfter, openedNow, qualifiedNow, heldNow, positionNow, shiftNow, takesNow, beginsNow}
 use Rattle.group.specs.Step.{placeAt}
 use Rattle.group.proofs.Laws.{place-picked, opened-by-mode}
-use borrow.Author.Needs.{needs}
 use Rattle.group.proofs.group_step.Statement.{statement}
 use Rattle.group.proofs.group_step.Tie as tie
 
@@ -62,43 +61,43 @@ opened c =
     (opened-by-mode (a .g .mode) (a .top + 1) (a .g) (a .x) (a .e))
 
 input-level-requires : tie.Need-input-level-requires
-input-level-requires c κs = search needs
+input-level-requires c κs = tt
 
 edge-requires : tie.Need-edge-requires
-edge-requires c κs = search needs
+edge-requires c κs = tt
 
 place-by-requires : tie.Need-place-by-requires
-place-by-requires c κs = search needs
+place-by-requires c κs = tt
 
 takes-requires : tie.Need-takes-requires
-takes-requires c κs = search needs
+takes-requires c κs = tt
 
 end-place-requires : tie.Need-end-place-requires
-end-place-requires c κs = search needs
+end-place-requires c κs = tt
 
 running-requires : tie.Need-running-requires
-running-requires c κs = search needs
+running-requires c κs = tt
 
 since-dwell-requires : tie.Need-since-dwell-requires
-since-dwell-requires c κs = search needs
+since-dwell-requires c κs = tt
 
 since-dwell-requires-2 : tie.Need-since-dwell-requires-2
-since-dwell-requires-2 c κs = search needs
+since-dwell-requires-2 c κs = tt
 
 since-dwell-requires-3 : tie.Need-since-dwell-requires-3
-since-dwell-requires-3 c κs = search needs
+since-dwell-requires-3 c κs = tt
 
 edge-requires-2 : tie.Need-edge-requires-2
-edge-requires-2 c κs = search needs
+edge-requires-2 c κs = tt
 
 stops-requires : tie.Need-stops-requires
-stops-requires c κs = search needs
+stops-requires c κs = tt
 
 stop-first-cycle-requires : tie.Need-stop-first-cycle-requires
-stop-first-cycle-requires c κs = search needs
+stop-first-cycle-requires c κs = tt
 
 opened-in-requires : tie.Need-opened-in-requires
-opened-in-requires c κs = search needs
+opened-in-requires c κs = tt
 
 returns : tie.Need-returns
 unfolding groupAfter placeAt positionNow

@@ -1,26 +1,25 @@
 -- `group::groups_of` meets its contract: each by its decoding. Assumes nothing.
 use Rattle.rules.specs.Words.{table}
-use borrow.Author.Needs.{needs}
 use Rattle.group.proofs.groups_of.Statement.{statement}
 use Rattle.group.proofs.groups_of.Tie as tie
 
 group-of-requires : tie.Need-group-of-requires
-group-of-requires c κs = search needs
+group-of-requires c κs = tt
 
 group-of-requires-2 : tie.Need-group-of-requires-2
-group-of-requires-2 c κs = search needs
+group-of-requires-2 c κs = tt
 
 group-of-requires-3 : tie.Need-group-of-requires-3
-group-of-requires-3 c κs = search needs
+group-of-requires-3 c κs = tt
 
 group-of-requires-4 : tie.Need-group-of-requires-4
-group-of-requires-4 c κs = search needs
+group-of-requires-4 c κs = tt
 
 group-of-requires-5 : tie.Need-group-of-requires-5
-group-of-requires-5 c κs = search needs
+group-of-requires-5 c κs = tt
 
 group-of-requires-6 : tie.Need-group-of-requires-6
-group-of-requires-6 c κs = search needs
+group-of-requires-6 c κs = tt
 
 returns : tie.Need-returns
 unfolding table

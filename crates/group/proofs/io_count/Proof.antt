@@ -8,7 +8,7 @@ enum-told : tie.Need-enum-told
 enum-told c = search needs
 
 real-count-requires : tie.Need-real-count-requires
-real-count-requires c κs = search needs
+real-count-requires c κs = tt
 
 enum-told-2 : tie.Need-enum-told-2
 enum-told-2 c = search needs

@@ -1,16 +1,15 @@
 -- `group::lacks_first_cycle` meets its contract: straight code. Assumes nothing.
-use borrow.Author.Needs.{needs}
 use Rattle.group.proofs.lacks_first_cycle.Statement.{statement}
 use Rattle.group.proofs.lacks_first_cycle.Tie as tie
 
 real-count-requires : tie.Need-real-count-requires
-real-count-requires c κs = search needs
+real-count-requires c κs = tt
 
 mode-number-requires : tie.Need-mode-number-requires
-mode-number-requires c κs = search needs
+mode-number-requires c κs = tt
 
 bit-requires : tie.Need-bit-requires
-bit-requires c κs = search needs
+bit-requires c κs = tt
 
 returns : tie.Need-returns
 returns c = rw (c .bit .ensures, c .before .mode-number .ensures, c .before .before .real-count .ensures)

@@ -1,19 +1,18 @@
 -- `group::owner` meets its contract: by the type of the output. Assumes nothing.
 use borrow.Author.Tests.{lt-ltb, le-ltb}
 use Rattle.group.specs.Blocks.{ownerIn}
-use borrow.Author.Needs.{needs}
 use Rattle.group.proofs.owner.Statement.{statement}
 use Rattle.group.proofs.owner.Tie as tie
 
 dealt-to-requires : tie.Need-dealt-to-requires
-dealt-to-requires c κs = search needs
+dealt-to-requires c κs = tt
 
 returns : tie.Need-returns
 unfolding ownerIn
 returns c = rw (lt-ltb _ _ (c .before .if1 .taken)) (c .dealt-to .ensures)
 
 dealt-to-requires-2 : tie.Need-dealt-to-requires-2
-dealt-to-requires-2 c κs = search needs
+dealt-to-requires-2 c κs = tt
 
 returns-2 : tie.Need-returns-2
 unfolding ownerIn

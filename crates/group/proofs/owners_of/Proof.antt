@@ -26,7 +26,7 @@ cast-owner : tie.Need-cast-owner Inv-loop μ-loop
 cast-owner c = search needs
 
 owner-requires : tie.Need-owner-requires Inv-loop μ-loop
-owner-requires c κs = search needs
+owner-requires c κs = tt
 
 mul-owners : tie.Need-mul-owners Inv-loop μ-loop
 mul-owners c = search needs

@@ -1,14 +1,13 @@
 -- `group::place_by` meets its contract: the position, and the dwell there. Assumes nothing.
 use Rattle.group.specs.Step.{placeAt}
-use borrow.Author.Needs.{needs}
 use Rattle.group.proofs.place_by.Statement.{statement}
 use Rattle.group.proofs.place_by.Tie as tie
 
 position-by-requires : tie.Need-position-by-requires
-position-by-requires c κs = search needs
+position-by-requires c κs = tt
 
 dwell-holds-requires : tie.Need-dwell-holds-requires
-dwell-holds-requires c κs = search needs
+dwell-holds-requires c κs = tt
 
 returns : tie.Need-returns
 unfolding placeAt

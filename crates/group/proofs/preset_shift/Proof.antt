@@ -1,11 +1,10 @@
 -- `group::preset_shift` meets its contract: how far the preset is ahead. Assumes nothing.
 use Rattle.rules.specs.Groups.{presetShift}
-use borrow.Author.Needs.{needs}
 use Rattle.group.proofs.preset_shift.Statement.{statement}
 use Rattle.group.proofs.preset_shift.Tie as tie
 
 ahead-requires : tie.Need-ahead-requires
-ahead-requires c κs = search needs
+ahead-requires c κs = tt
 
 returns : tie.Need-returns
 unfolding presetShift

@@ -5,34 +5,34 @@ use Rattle.group.proofs.program_bad.Statement.{statement}
 use Rattle.group.proofs.program_bad.Tie as tie
 
 group-word-requires : tie.Need-group-word-requires
-group-word-requires c κs = search needs
+group-word-requires c κs = tt
 
 quantity-requires : tie.Need-quantity-requires
-quantity-requires c κs = search needs
+quantity-requires c κs = tt
 
 bit-requires : tie.Need-bit-requires
-bit-requires c κs = search needs
+bit-requires c κs = tt
 
 type-of-requires : tie.Need-type-of-requires
-type-of-requires c κs = search needs
+type-of-requires c κs = tt
 
 io-count-requires : tie.Need-io-count-requires
-io-count-requires c κs = search needs
+io-count-requires c κs = tt
 
 cast-room : tie.Need-cast-room
 cast-room c = search needs
 
 mode-number-requires : tie.Need-mode-number-requires
-mode-number-requires c κs = search needs
+mode-number-requires c κs = tt
 
 other-bit-requires : tie.Need-other-bit-requires
-other-bit-requires c κs = search needs
+other-bit-requires c κs = tt
 
 lacks-first-cycle-requires : tie.Need-lacks-first-cycle-requires
-lacks-first-cycle-requires c κs = search needs
+lacks-first-cycle-requires c κs = tt
 
 dealt-up-to-requires : tie.Need-dealt-up-to-requires
-dealt-up-to-requires c κs = search needs
+dealt-up-to-requires c κs = tt
 
 returns : tie.Need-returns
 unfolding groupProgramBad

@@ -1,11 +1,10 @@
 -- `group::running` meets its contract: straight code over the level. Assumes nothing.
 use Rattle.rules.specs.Groups.{running}
-use borrow.Author.Needs.{needs}
 use Rattle.group.proofs.running.Statement.{statement}
 use Rattle.group.proofs.running.Tie as tie
 
 input-level-requires : tie.Need-input-level-requires
-input-level-requires c κs = search needs
+input-level-requires c κs = tt
 
 returns : tie.Need-returns
 unfolding running

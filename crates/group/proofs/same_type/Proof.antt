@@ -1,14 +1,13 @@
 -- `group::same_type` meets its contract: both real or neither. Assumes nothing.
 use Rattle.group.proofs.Laws.{both-real}
-use borrow.Author.Needs.{needs}
 use Rattle.group.proofs.same_type.Statement.{statement}
 use Rattle.group.proofs.same_type.Tie as tie
 
 is-real-requires : tie.Need-is-real-requires
-is-real-requires c κs = search needs
+is-real-requires c κs = tt
 
 is-real-requires-2 : tie.Need-is-real-requires-2
-is-real-requires-2 c κs = search needs
+is-real-requires-2 c κs = tt
 
 returns : tie.Need-returns
 returns c = rw (c .is-real2 .ensures, c .before .is-real .ensures) (both-real (c .before .before .args .a) (c .before .before .args .b))

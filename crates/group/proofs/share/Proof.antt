@@ -1,11 +1,10 @@
 -- `group::share` meets its contract: by the test of use and type. Assumes nothing.
 use Rattle.group.specs.Blocks.{shareOf}
-use borrow.Author.Needs.{needs}
 use Rattle.group.proofs.share.Statement.{statement}
 use Rattle.group.proofs.share.Tie as tie
 
 same-type-requires : tie.Need-same-type-requires
-same-type-requires c κs = search needs
+same-type-requires c κs = tt
 
 returns : tie.Need-returns
 unfolding shareOf

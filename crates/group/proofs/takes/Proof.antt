@@ -1,10 +1,9 @@
 -- `group::takes` meets its contract: straight code over the mode. Assumes nothing.
-use borrow.Author.Needs.{needs}
 use Rattle.group.proofs.takes.Statement.{statement}
 use Rattle.group.proofs.takes.Tie as tie
 
 presets-requires : tie.Need-presets-requires
-presets-requires c κs = search needs
+presets-requires c κs = tt
 
 returns : tie.Need-returns
 returns c = rw (c .before .before .presets .ensures)

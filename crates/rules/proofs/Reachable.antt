@@ -1,0 +1,78 @@
+-- Every module that a card can hold: for each list of calls from power-up no sum or count of the state machine runs over, and setpoints, offsets, presets
+-- and shifts are below SF. So what Card says of other modules (a sum modulo 2^32) no card meets. Assumes nothing.
+use Prim.Native.Nat.{ℕ, _+_, _-_, _%_, _^_, _≤_, _<_}
+use mathlib.Core.Path.{_≡_, refl, sym, ap, subst, _∙_}
+use mathlib.Core.Bool.{Bool, true, false, cond}
+use mathlib.Core.List.{List}
+use native.Mathlib.Nat.{mod-eq-of-lt}
+use native.Mathlib.Omega.{arith}
+use lib.Dec.{lit<, lit≤}
+use Rattle.rules.specs.declared.Model.{Model}
+use Rattle.rules.specs.declared.Switch.the-variants.{Timed}
+use Rattle.rules.specs.declared.Programming.{Programming}
+use Rattle.rules.specs.declared.Configuration.{Configuration}
+use Rattle.rules.specs.declared.Window.{Window}
+use Rattle.rules.specs.declared.State.{State}
+use Rattle.rules.specs.declared.Module.{Module}
+use Rattle.rules.specs.Motion.{scaleFactor, windowSteps, shortSteps}
+use Rattle.rules.specs.Switches.{timedSteps, limitOf}
+use Rattle.rules.specs.Calls.{Call}
+use Rattle.rules.specs.Card.{biasedMovement, windowSum, groupStateAt, timedAt}
+use Rattle.rules.specs.Run.{run}
+use Rattle.rules.specs.History.{configurationOf, sinceModuleStart, sinceGroupStart, sinceLimitStart, lastTaken, pastOf, movements, heldAt}
+use Rattle.rules.proofs.GroupPast.{shift-below}
+use Rattle.rules.proofs.Timed.{passedOf}
+use Rattle.rules.proofs.Windows.{WindowLink, steps-below, sum-fits, biased-below, long-some, long-small}
+use Rattle.rules.proofs.Ranges.{Within, ranges}
+use Rattle.rules.proofs.Agreement.{configuration-is, Agrees, agrees}
+
+-- a window of so many steps: its count is below them, and its sum with a movement more, whatever q comes, fits 32 bits
+pub record WindowWithin (size : ℕ) (w : Window) (next : ℕ → ℕ) : Type 0 where
+  pub steps : w .steps < size
+  pub sum : (q : ℕ) → w .sum + next q < 2 ^ 32
+
+pub record StateWithin (p : Programming) (x : State) : Type 0 where
+  pub short : WindowWithin shortSteps (x .speed .short) (biasedMovement (x .speed .last))
+  pub long : WindowWithin (windowSteps (p .setup .fast)) (x .speed .long) (biasedMovement (x .speed .last))
+  pub shift : (n : ℕ) → n < 6 → groupStateAt x n .shift < scaleFactor (p .setup)
+  pub left : (n t : ℕ) → n < 32 → limitOf p n .switch ≡ Timed t → timedAt x n .left ≤ timedSteps t
+
+pub record ModuleWithin (x : Module) : Type 0 where
+  pub programming : Within (x .configuration .programming)
+  pub state : StateWithin (x .configuration .programming) (x .state)
+
+-- where the sum fits, `windowSum` is the plain sum
+pub plain-sum : (size : ℕ) (w : Window) (next : ℕ → ℕ) → WindowWithin size w next → (q : ℕ) → windowSum w (next q) ≡ w .sum + next q
+unfolding windowSum
+plain-sum size w next k q = mod-eq-of-lt (k .sum q)
+
+left-below : (n passed : ℕ) (held : Bool) → cond held (n - passed) 0 ≤ n
+left-below n passed true = omega arith
+left-below n passed false = omega arith
+
+state-within : (m : Model) (l : List Call) → StateWithin (configurationOf m l .programming) (run m l .state)
+state-within m l =
+    let k = agrees m l in
+    let p : Programming = configurationOf m l .programming in
+    let x : State = run m l .state in
+    record {
+      short = record {
+        steps = steps-below shortSteps (lit< tt) (lit≤ tt) (movements (sinceModuleStart m l)) (x .speed .short) (k .speed .short);
+        sum = λ q. sum-fits shortSteps (lit< tt) (lit≤ tt) (movements (sinceModuleStart m l)) (x .speed .short) (k .speed .short)
+            (biasedMovement (x .speed .last) q) (biased-below (x .speed .last) q);
+      };
+      long = record {
+        steps = steps-below (windowSteps (p .setup .fast)) (long-some _) (long-small _) (movements (sinceModuleStart m l)) (x .speed .long) (k .speed .long);
+        sum = λ q. sum-fits (windowSteps (p .setup .fast)) (long-some _) (long-small _) (movements (sinceModuleStart m l)) (x .speed .long) (k .speed .long)
+            (biasedMovement (x .speed .last) q) (biased-below (x .speed .last) q);
+      };
+      shift = λ n b. rw (k .groups n b .shift) (shift-below (p .setup .top) (lastTaken (pastOf (sinceGroupStart m l n))));
+      left = λ n t b e. rw (k .timed n b t e .left) (left-below (timedSteps t) (passedOf (sinceLimitStart m l n)) (heldAt (sinceLimitStart m l n)));
+    }
+
+-- THE REACHABLE MODULES
+pub reachable : (m : Model) (l : List Call) → ModuleWithin (run m l)
+reachable m l = record {
+  programming = rw (configuration-is m l) (ranges m l);
+  state = rw (configuration-is m l) (state-within m l);
+}

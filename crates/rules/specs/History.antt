@@ -1,0 +1,362 @@
+-- What 01 says of a list of calls: from the model and the calls' arguments alone, what each step answers. Lists of calls and of steps have the latest first.
+-- No state is kept and the state machine (Card) is not imported: the past is asked by the quantifiers of Quant. Assumes nothing.
+use Prim.Native.Nat.{ℕ, _+_, _-_, _*_, _%_}
+use mathlib.Core.Bool.{Bool, true, false, cond, not, _&&_, _||_}
+use mathlib.Core.List.{List, [], _∷_}
+use mathlib.Core.Option.{Option, none, some}
+use lib.ListN.{length, take, drop}
+use lib.Dec.{ltb, eqb}
+use lib.IntN.{ℤ, pos, _+ℤ_}
+use Rattle.rules.specs.declared.MachinePosition.{MachinePosition}
+use Rattle.rules.specs.declared.GroupPosition.{GroupPosition}
+use Rattle.rules.specs.declared.Model.{Model}
+use Rattle.rules.specs.declared.Mode.{Mode}
+use Rattle.rules.specs.declared.Mode.the-variants.{Mode0, Mode1, Mode2, Mode3, Mode4, Mode5}
+use Rattle.rules.specs.declared.Setup.{Setup}
+use Rattle.rules.specs.declared.Group.{Group}
+use Rattle.rules.specs.declared.Switch.{Switch}
+use Rattle.rules.specs.declared.Switch.the-variants.{Unprogrammed, Normal, Pulse, Timed}
+use Rattle.rules.specs.declared.Programming.{Programming}
+use Rattle.rules.specs.declared.Configuration.{Configuration}
+use Rattle.rules.specs.declared.Sample.{Sample}
+use Rattle.rules.specs.declared.Event.{Event}
+use Rattle.rules.specs.declared.Answer.{Answer}
+use Rattle.rules.specs.Words.{wordOf}
+use Rattle.rules.specs.Motion.{levelOf, scaleFactor, turned, machineAt, movement, windowSteps, shortSteps, rpmOf, detects}
+use Rattle.rules.specs.Groups.{groupAt, ahead, dwellHolds, groupPosition, presets, edge, stops, running}
+use Rattle.rules.specs.Switches.{pairHolds, timedSteps, Conditions, limitOf, switchPosition, outputRule, outputOn, soundAnswer, faultAnswer}
+use Rattle.rules.specs.Programming.{isAccepted, freshConfiguration, setupCycle, groupCycle, limitCycle, sound}
+use Rattle.rules.specs.Calls.{Call, Step, SetupCall, GroupCall, LimitCall, NudgeCall, configurationAfter}
+use Rattle.rules.specs.Quant.{exists, afterEach, noLater, latestSaw, heldUnder}
+
+-- ---- The programming, the fault and the starts
+
+-- "From the module number and the calls' arguments alone, 01's rules say which cycles are accepted and which steps are answered 11, hence the programming, the fault and the starts."
+unfoldable pub configurationOf : Model → List Call → Configuration
+configurationOf m [] = freshConfiguration m
+configurationOf m (call ∷ l) = configurationAfter (configurationOf m l) call
+
+abbrev pub programmingOf : Model → List Call → Programming
+programmingOf m l = configurationOf m l .programming
+
+abbrev pub setupInForce : Model → List Call → Setup
+setupInForce m l = programmingOf m l .setup
+
+-- "Module start: power-up, an accepted setup cycle, or a step answered 11."
+unfoldable pub isModuleStart : Configuration → Call → Bool
+isModuleStart g (Step s) = not (sound g s)
+isModuleStart g (SetupCall file) = isAccepted (setupCycle g file .outcome)
+isModuleStart g (GroupCall file) = false
+isModuleStart g (LimitCall file) = false
+isModuleStart g (NudgeCall w) = false
+
+-- "Group start: a module start or an accepted group cycle."
+unfoldable pub isGroupStart : Configuration → Call → Bool
+isGroupStart g (Step s) = isModuleStart g (Step s)
+isGroupStart g (SetupCall file) = isModuleStart g (SetupCall file)
+isGroupStart g (GroupCall file) = isAccepted (groupCycle g file .outcome)
+isGroupStart g (LimitCall file) = false
+isGroupStart g (NudgeCall w) = false
+
+-- where a timed switch starts: "an accepted limit cycle or group start"
+unfoldable pub isLimitStart : Configuration → Call → Bool
+isLimitStart g (Step s) = isGroupStart g (Step s)
+isLimitStart g (SetupCall file) = isGroupStart g (SetupCall file)
+isLimitStart g (GroupCall file) = isGroupStart g (GroupCall file)
+isLimitStart g (LimitCall file) = isAccepted (limitCycle g file .outcome)
+isLimitStart g (NudgeCall w) = false
+
+-- a call's step, if it is one, put before the steps that came earlier
+abbrev pub withStep : {A : Type 0} → Call → (Sample → A) → List A → List A
+withStep (Step s) what h = what s ∷ h
+withStep (SetupCall file) what h = h
+withStep (GroupCall file) what h = h
+withStep (LimitCall file) what h = h
+withStep (NudgeCall w) what h = h
+
+-- The steps since the last start, each as `what` held at it: `what` gets the calls before the step, and its sample.
+unfoldable pub since : {A : Type 0} → (Configuration → Call → Bool) → (List Call → Sample → A) → Model → List Call → List A
+since starts what m [] = []
+since starts what m (call ∷ l) = cond (starts (configurationOf m l) call) [] (withStep call (what l) (since starts what m l))
+
+-- ---- Speed
+
+-- q of a step
+unfoldable pub turnedIn : Model → List Call → Sample → ℕ
+turnedIn m l s = turned (setupInForce m l .reversed) (s .raw)
+
+-- "Steps count from the module start.": q of each step since then; the same with the step that comes
+unfoldable pub sinceModuleStart : Model → List Call → List ℕ
+sinceModuleStart m l = since isModuleStart (turnedIn m) m l
+
+abbrev pub upToStep : Model → List Call → Sample → List ℕ
+upToStep m l s = turnedIn m l s ∷ sinceModuleStart m l
+
+-- "Movement is ((q − last q + 512) mod 1024) − 512, and 0 on the first step after a module start"
+unfoldable pub movementFrom : List ℕ → ℕ → ℤ
+movementFrom [] q = pos 0
+movementFrom (last ∷ qs) q = movement q last
+
+unfoldable pub movements : List ℕ → List ℤ
+movements [] = []
+movements (q ∷ qs) = movementFrom qs q ∷ movements qs
+
+abbrev pub total : List ℤ → ℤ
+total [] = pos 0
+total (z ∷ h) = z +ℤ total h
+
+-- "At every 120th step, c becomes the sum of the last 120 movements (0 earlier)." So: the sum of the last `size` movements up to the last step whose
+-- number is a multiple of `size`. As many steps came after that one as the remainder says.
+unfoldable pub windowTotal : ℕ → List ℤ → ℤ
+windowTotal size h = cond (ltb (length h) size) (pos 0) (total (take size (drop (length h % size) h)))
+
+unfoldable pub cOf : List ℕ → ℤ
+cOf qs = windowTotal shortSteps (movements qs)
+
+-- "At every 600th (TResp 1) or 2520th step, C is the sum over that window .., and rpm = |C| × 60000 / (1024 × W), rounded half up (0 earlier)."
+unfoldable pub rpmAt : Bool → List ℕ → ℕ
+rpmAt fast qs = rpmOf fast (windowTotal (windowSteps fast) (movements qs))
+
+-- the step is one in which rpm is updated
+unfoldable pub updateAt : Bool → List ℕ → Bool
+updateAt fast qs = eqb (length qs % windowSteps fast) 0
+
+unfoldable pub rpmIn : Model → List Call → Sample → ℕ
+rpmIn m l s = rpmAt (setupInForce m l .fast) (upToStep m l s)
+
+-- ---- A group's past
+
+-- A step of a group: the scale factor and the group's program in force at it (the preset is the program's offset), and what the group met in it.
+pub record GroupStep : Type 0 where
+  pub sf : ℕ
+  pub program : Group
+  pub event : Event
+
+-- A past step of a group, with what 01 says of it: a dwell began in it, an edge was taken in it.
+pub record PastStep : Type 0 where
+  pub sf : ℕ
+  pub program : Group
+  pub event : Event
+  pub begins : Bool
+  pub takes : Bool
+
+-- of a moment, what its step is
+unfoldable pub beginsAt : List PastStep → Bool
+beginsAt [] = false
+beginsAt (s ∷ h) = s .begins
+
+unfoldable pub takesAt : List PastStep → Bool
+takesAt [] = false
+takesAt (s ∷ h) = s .takes
+
+-- "before a group start's first step .. every group and First Cycle input was inactive"
+unfoldable pub levelAt : List PastStep → Bool
+levelAt [] = false
+levelAt (s ∷ h) = s .event .level
+
+unfoldable pub firstAt : List PastStep → Bool
+firstAt [] = false
+firstAt (s ∷ h) = s .event .first
+
+-- an edge of the group's input, of its First Cycle Input
+unfoldable pub edgeAt : List PastStep → Bool
+edgeAt [] = false
+edgeAt (s ∷ h) = edge (levelAt h) (s .event .level)
+
+unfoldable pub firstEdgeAt : List PastStep → Bool
+firstEdgeAt [] = false
+firstEdgeAt (s ∷ h) = edge (firstAt h) (s .event .first)
+
+-- "A stop is an update with rpm 0."
+unfoldable pub stopAt : List PastStep → Bool
+stopAt [] = false
+stopAt (s ∷ h) = stops (s .event)
+
+unfoldable pub runningAt : List PastStep → Bool
+runningAt [] = false
+runningAt (s ∷ h) = running (s .event)
+
+-- the last step in which an edge was taken
+unfoldable pub lastTaken : List PastStep → Option PastStep
+lastTaken [] = none
+lastTaken (s ∷ h) = cond (s .takes) (some s) (lastTaken h)
+
+-- Modes 1, 2: "Taking sets the position to the preset in force at that step (travel is the change of Machine Position from there)". So: the preset in
+-- force at the last edge taken plus the travel from there, modulo SF; with no such edge the machine's.
+unfoldable pub presetPosition : ℕ → Option PastStep → MachinePosition → GroupPosition
+presetPosition sf none m = record { 0 = m .0 }
+presetPosition sf (some taken) m = record { 0 = (taken .program .offset + ahead sf (taken .event .machine .0) (m .0)) % sf }
+
+-- "Modes 0, 3, 4, 5: Group Position = (Machine Position + group offset) mod SF."
+unfoldable pub positionFrom : ℕ → Group → Option PastStep → MachinePosition → GroupPosition
+positionFrom sf g taken m = cond (presets (g .mode)) (presetPosition sf taken m) (groupPosition sf (g .offset) m)
+
+-- Group Position at the end of a moment's step
+unfoldable pub positionAt : List PastStep → GroupPosition
+positionAt [] = record { 0 = 0 }
+positionAt (s ∷ h) = positionFrom (s .sf) (s .program) (lastTaken (s ∷ h)) (s .event .machine)
+
+-- the dwell holds at the end of a moment's step; "before a group start's first step it did not hold"
+unfoldable pub dwellAt : List PastStep → Bool
+dwellAt [] = false
+dwellAt (s ∷ h) = dwellHolds (s .sf) (s .program .dwell) (positionAt (s ∷ h))
+
+-- "It begins at a step where it holds and did not at the end of the previous step, judged before any edge is taken"
+unfoldable pub begins : GroupStep → List PastStep → Bool
+begins s h =
+    dwellHolds (s .sf) (s .program .dwell) (positionFrom (s .sf) (s .program) (lastTaken h) (s .event .machine)) && not (dwellAt h)
+
+-- "An edge is taken if no edge was taken since group start, or a dwell has begun since the last taken one, this step included."
+unfoldable pub takes : GroupStep → List PastStep → Bool
+takes s h =
+    presets (s .program .mode)
+    && edge (levelAt h) (s .event .level)
+    && (not (exists takesAt h) || begins s h || afterEach beginsAt takesAt h)
+
+-- the steps of a group since its start as its past
+unfoldable pub pastOf : List GroupStep → List PastStep
+pastOf [] = []
+pastOf (s ∷ h) = record {
+  sf = s .sf;
+  program = s .program;
+  event = s .event;
+  begins = begins s (pastOf h);
+  takes = takes s (pastOf h);
+} ∷ pastOf h
+
+-- "A dwell lasts from its beginning for as long as its pair holds at each step; the latest is the last begun, ended or not.": it saw a step with X
+unfoldable pub latestDwellSaw : (List PastStep → Bool) → List PastStep → Bool
+latestDwellSaw X h = latestSaw beginsAt dwellAt X h
+
+-- "A qualifying step (in the dwell, input active, rpm not 0)"
+unfoldable pub qualifiesAt : List PastStep → Bool
+qualifiesAt h = dwellAt h && runningAt h
+
+-- "An edge of the First Cycle Input that isn't in a stop step .. if a qualifying step came since the dwell began; only such an edge counts."
+unfoldable pub countsAt : List PastStep → Bool
+countsAt h = firstEdgeAt h && not (stopAt h) && latestDwellSaw qualifiesAt h
+
+-- Modes 0, 1: always open. Mode 3: its input is active.
+-- Mode 2: an edge was taken, and no dwell began in a later step.
+-- Mode 4: an edge of its input fell in its latest dwell.
+-- Mode 5: its latest dwell saw a qualifying step, and no stop came in a later step than the last qualifying step or counted First Cycle edge, whichever of the two is later.
+unfoldable pub openAt : Mode → List PastStep → Bool
+openAt Mode0 h = true
+openAt Mode1 h = true
+openAt Mode2 h = noLater takesAt beginsAt h
+openAt Mode3 h = levelAt h
+openAt Mode4 h = latestDwellSaw edgeAt h
+openAt Mode5 h = latestDwellSaw qualifiesAt h && noLater (λ j. qualifiesAt j || countsAt j) stopAt h
+
+-- ---- The groups of the card
+
+-- what group n, from 0, meets: table 3.1, "group g 1 to 6, .. First Cycle 8; virtual 16 higher"
+unfoldable pub eventIn : Model → List Call → Sample → ℕ → Event
+eventIn m l s n = record {
+  machine = machineAt (configurationOf m l) s;
+  level = levelOf (configurationOf m l) s (groupAt (programmingOf m l) n .kind) n;
+  first = levelOf (configurationOf m l) s (groupAt (programmingOf m l) n .firstcycle) 7;
+  rpm = rpmIn m l s;
+  update = updateAt (setupInForce m l .fast) (upToStep m l s);
+}
+
+unfoldable pub groupStepIn : Model → ℕ → List Call → Sample → GroupStep
+groupStepIn m n l s =
+    record { sf = scaleFactor (setupInForce m l); program = groupAt (programmingOf m l) n; event = eventIn m l s n }
+
+unfoldable pub sinceGroupStart : Model → List Call → ℕ → List GroupStep
+sinceGroupStart m l n = since isGroupStart (groupStepIn m n) m l
+
+-- group n's past with the step that comes
+unfoldable pub groupPast : Model → List Call → Sample → ℕ → List PastStep
+groupPast m l s n = pastOf (groupStepIn m n l s ∷ sinceGroupStart m l n)
+
+-- its position, "0 for a group unused", and whether it is open
+unfoldable pub positionIn : Model → List Call → Sample → ℕ → GroupPosition
+positionIn m l s n = cond (groupAt (programmingOf m l) n .used) (positionAt (groupPast m l s n)) (record { 0 = 0 })
+
+unfoldable pub openIn : Model → List Call → Sample → ℕ → Bool
+openIn m l s n = openAt (groupAt (programmingOf m l) n .mode) (groupPast m l s n)
+
+-- ---- Timed switches
+
+-- the pair of output n, from 0, if it is timed
+unfoldable pub pairIn : Model → ℕ → List Call → Sample → Bool
+pairIn m n l s =
+    pairHolds (scaleFactor (setupInForce m l)) (cOf (upToStep m l s)) (limitOf (programmingOf m l) n) 0
+    (switchPosition (programmingOf m l) (machineAt (configurationOf m l) s) (positionIn m l s) n)
+
+unfoldable pub sinceLimitStart : Model → List Call → ℕ → List Bool
+sinceLimitStart m l n = since isLimitStart (pairIn m n) m l
+
+-- at a moment's step the pair held; "Before the first step after an accepted limit cycle or group start it did not hold."
+unfoldable pub heldAt : List Bool → Bool
+heldAt [] = false
+heldAt (b ∷ h) = b
+
+-- "its pair holds and fewer than 5 × T steps have passed since it began to hold"
+unfoldable pub lasts : Switch → List Bool → Bool
+lasts Unprogrammed h = false
+lasts Normal h = false
+lasts (Pulse q k) h = false
+lasts (Timed t) h = heldUnder (timedSteps t) heldAt h
+
+unfoldable pub lastsIn : Model → List Call → Sample → ℕ → Bool
+lastsIn m l s n = lasts (limitOf (programmingOf m l) n .switch) (pairIn m n l s ∷ sinceLimitStart m l n)
+
+-- ---- The answer
+
+-- what the output rule reads of the step
+unfoldable pub expectedConditions : Model → List Call → Sample → Conditions
+expectedConditions m l s = record {
+  c = cOf (upToStep m l s);
+  md1 = detects (setupInForce m l .md1) (rpmIn m l s);
+  md2 = detects (setupInForce m l .md2) (rpmIn m l s);
+  machine = machineAt (configurationOf m l) s;
+  position = positionIn m l s;
+  isopen = openIn m l s;
+  level = levelOf (configurationOf m l) s;
+  lasting = lastsIn m l s;
+}
+
+-- "else no fault, the switch holds, the group is open, and what is ANDed .. holds"; 11: "unforced outputs off"
+unfoldable pub expectedRule : Model → List Call → Sample → ℕ → Bool
+expectedRule m l s n = sound (configurationOf m l) s && outputRule (programmingOf m l) (expectedConditions m l s) n
+
+-- an output, from 0: "forced off, no; forced on, yes; else .."; "a missing one never"
+unfoldable pub expectedOutput : Model → List Call → Sample → ℕ → Bool
+expectedOutput m l s n = outputOn m s (expectedRule m l s) n
+
+-- "the Machine Position of the last step since power-up not answered 11, else 0"
+unfoldable pub lastPosition : Model → List Call → MachinePosition
+lastPosition m [] = record { 0 = 0 }
+lastPosition m (Step s ∷ l) = cond (sound (configurationOf m l) s) (machineAt (configurationOf m l) s) (lastPosition m l)
+lastPosition m (SetupCall file ∷ l) = lastPosition m l
+lastPosition m (GroupCall file ∷ l) = lastPosition m l
+lastPosition m (LimitCall file ∷ l) = lastPosition m l
+lastPosition m (NudgeCall w ∷ l) = lastPosition m l
+
+-- the virtual outputs of "the previous step (all off before the first since power-up)"
+unfoldable pub previousVirtuals : Model → List Call → ℕ
+previousVirtuals m [] = 0
+previousVirtuals m (Step s ∷ l) = wordOf 16 (expectedOutput m l s)
+previousVirtuals m (SetupCall file ∷ l) = previousVirtuals m l
+previousVirtuals m (GroupCall file ∷ l) = previousVirtuals m l
+previousVirtuals m (LimitCall file ∷ l) = previousVirtuals m l
+previousVirtuals m (NudgeCall w ∷ l) = previousVirtuals m l
+
+-- what a step after the calls `l` answers
+unfoldable pub expectedAnswer : Model → List Call → Sample → Answer
+expectedAnswer m l s =
+    cond (sound (configurationOf m l) s)
+    (soundAnswer (configurationOf m l) s (rpmIn m l s) (previousVirtuals m l) (expectedOutput m l s))
+    (faultAnswer (configurationOf m l) (lastPosition m l) (previousVirtuals m l) (expectedOutput m l s))
+
+-- what the steps of a list of calls in the order of time answer; `past` are the calls before it, the latest first
+unfoldable pub expectedAnswers : Model → List Call → List Call → List Answer
+expectedAnswers m past [] = []
+expectedAnswers m past (Step s ∷ calls) = expectedAnswer m past s ∷ expectedAnswers m (Step s ∷ past) calls
+expectedAnswers m past (SetupCall file ∷ calls) = expectedAnswers m (SetupCall file ∷ past) calls
+expectedAnswers m past (GroupCall file ∷ calls) = expectedAnswers m (GroupCall file ∷ past) calls
+expectedAnswers m past (LimitCall file ∷ calls) = expectedAnswers m (LimitCall file ∷ past) calls
+expectedAnswers m past (NudgeCall w ∷ calls) = expectedAnswers m (NudgeCall w ∷ past) calls

@@ -1,0 +1,105 @@
+-- The advance in signs and magnitudes: 01's s is a quotient of magnitudes, and every setpoint of a switch moves by one displacement.
+-- Assumes nothing.
+use Prim.Native.Nat.{ℕ, zero, suc, _+_, _-_, _*_, _/_, _%_, _≤_}
+use mathlib.Core.Bool.{Bool, true, false, cond, not, xor}
+use mathlib.Core.Path.{_≡_, refl, sym, ap, _∙_}
+use native.Mathlib.Nat.{zero-div, mul-zero, zero-mul, zero-mod, mod-mod, add-mod-mod}
+use native.Mathlib.Omega.{arith}
+use borrow.Author.Tests.{le-ltb}
+use lib.IntN.{ℤ, pos, negsuc, negℤ, subℕ, _-ℤ_, _*ℤ_}
+use lib.Signed.{quotZ}
+use Rattle.rules.specs.Words.{modulo}
+use Rattle.rules.specs.Motion.{signed}
+use Rattle.rules.specs.Groups.{ahead}
+use Rattle.rules.specs.Switches.{advanceShift, moved}
+use Rattle.rules.proofs.Laws.{modulo-natural, ahead-natural, ahead-up}
+use Rattle.switch.specs.Parts.{shiftCounts, movedBy}
+
+-- 0 has one sign
+no-sign : (n : ℕ) → n ≡ 0 → negℤ (pos n) ≡ pos n
+no-sign n e = rw e
+
+product : (x y : Bool) (a b : ℕ) → signed x a *ℤ signed y b ≡ signed (xor x y) (a * b)
+unfolding xor
+product false false a b = refl
+product false true a zero = sym (no-sign (a * 0) (mul-zero a))
+product false true a (suc b) = refl
+product true false zero b = sym (no-sign (0 * b) (zero-mul b))
+product true false (suc a) b = refl
+product true true zero zero = refl
+product true true zero (suc b) = no-sign (0 * suc b) (zero-mul (suc b))
+product true true (suc a) zero = no-sign (suc a * 0) (mul-zero (suc a))
+product true true (suc a) (suc b) = refl
+
+quotient : (x : Bool) (n d : ℕ) → quotZ (signed x n) (pos d) ≡ signed x (n / d)
+quotient false n d = refl
+quotient true zero d = sym (no-sign (0 / d) (zero-div d))
+quotient true (suc n) d = refl
+
+unsigned : (x : Bool) → xor x false ≡ x
+unfolding xor
+unsigned true = refl
+unsigned false = refl
+
+-- s: the sign of the product, and its magnitude divided toward zero
+pub shift-signed : (sf : ℕ) (x y : Bool) (a c : ℕ) → advanceShift sf (signed x a) (signed y c) ≡ signed (xor x y) (a * c * sf / 245760)
+unfolding advanceShift
+shift-signed sf x y a c =
+    ap (λ (z : ℤ). quotZ (z *ℤ pos sf) (pos 245760)) (product x y a c)
+    ∙ ap (λ (z : ℤ). quotZ z (pos 245760)) (product (xor x y) false (a * c) sf ∙ ap (λ (b : Bool). signed b (a * c * sf)) (unsigned (xor x y)))
+    ∙ quotient (xor x y) (a * c * sf) 245760
+
+difference : (a b : ℕ) → pos a -ℤ pos b ≡ subℕ a b
+difference a zero = let e : a + 0 ≡ a - 0 = omega arith in rw (le-ltb a 0 (omega arith), e)
+difference a (suc b) = refl
+
+behind : (t n : ℕ) → modulo (pos 0 -ℤ pos n) (t + 1) ≡ (t + 1 - n % (t + 1)) % (t + 1)
+behind t n =
+    let e : 0 + (t + 1 - n % (t + 1)) ≡ t + 1 - n % (t + 1) = omega arith in
+    rw (difference 0 n, modulo-natural 0 n t, e)
+
+reduced-up : (t x n : ℕ) → modulo (pos x -ℤ negsuc n) (t + 1) ≡ (x + modulo (pos 0 -ℤ negsuc n) (t + 1)) % (t + 1)
+unfolding modulo
+reduced-up t x n = let e : 0 + suc n ≡ suc n = omega arith in rw e (sym (add-mod-mod x (suc n) (t + 1)))
+
+reduced : (t x : ℕ) (z : ℤ) → modulo (pos x -ℤ z) (t + 1) ≡ (x + modulo (pos 0 -ℤ z) (t + 1)) % (t + 1)
+reduced t x (pos n) =
+    rw (behind t n, difference x n, modulo-natural x n t) (sym (add-mod-mod x (t + 1 - n % (t + 1)) (t + 1)))
+reduced t x (negsuc n) = reduced-up t x n
+
+-- every setpoint moves by what 0 moves
+pub moved-by : (t : ℕ) (a c : ℤ) (x : ℕ) → moved (t + 1) a c x ≡ movedBy (t + 1) (moved (t + 1) a c 0) x
+unfolding moved movedBy
+moved-by t a c x = reduced t x (advanceShift (t + 1) a c)
+
+backward : (t n : ℕ) → modulo (pos 0 -ℤ pos n) (t + 1) ≡ ahead (t + 1) (n % (t + 1)) 0
+backward t n =
+    let e : 0 + (t + 1 - n % (t + 1)) ≡ t + 1 - n % (t + 1) = omega arith in
+    rw (behind t n, ahead-natural t (n % (t + 1)) 0, mod-mod n (t + 1), e)
+
+forward : (t n : ℕ) → modulo (pos 0 -ℤ negℤ (pos n)) (t + 1) ≡ n % (t + 1)
+unfolding modulo
+forward t zero = refl
+forward t (suc n) = let e : 0 + suc n ≡ suc n = omega arith in rw e
+
+by-sign : (t n : ℕ) (b : Bool) → modulo (pos 0 -ℤ signed b n) (t + 1) ≡ cond b (n % (t + 1)) (ahead (t + 1) (n % (t + 1)) 0)
+by-sign t n true = forward t n
+by-sign t n false = backward t n
+
+-- what 0 moves by: against s
+pub displacement-of : (t : ℕ) (x y : Bool) (a c : ℕ) →
+    moved (t + 1) (signed x a) (signed y c) 0 ≡ cond (xor x y) (shiftCounts (t + 1) a c) (ahead (t + 1) (shiftCounts (t + 1) a c) 0)
+unfolding moved shiftCounts
+displacement-of t x y a c = rw (shift-signed (t + 1) x y a c) (by-sign t (a * c * (t + 1) / 245760) (xor x y))
+
+same-either : (b : Bool) (n : ℕ) → cond b n n ≡ n
+same-either true n = refl
+same-either false n = refl
+
+-- without advance or travel it stays
+pub unmoved : (t : ℕ) (x y : Bool) (a c : ℕ) → a * c ≡ 0 → moved (t + 1) (signed x a) (signed y c) 0 ≡ 0
+unfolding shiftCounts
+unmoved t x y a c e =
+    displacement-of t x y a c
+    ∙ (let z : a * c * (t + 1) / 245760 % (t + 1) ≡ 0 = rw (e, zero-mul (t + 1)) (zero-mod (t + 1)) in
+    rw (z, ahead-up t 0 0 (omega arith) (omega arith)) (same-either (xor x y) 0))

@@ -1,0 +1,6 @@
+pub mod Ranges
+pub mod Bits
+pub mod Advance
+pub mod Pairs
+pub mod Train
+pub mod Blocks

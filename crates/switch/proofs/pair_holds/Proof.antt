@@ -1,0 +1,46 @@
+-- `switch::pair_holds` meets its contract: both setpoints by their displacements. Assumes nothing.
+use Rattle.switch.proofs.Pairs.{pair-moved}
+use Rattle.rules.specs.Motion.{travelValue}
+use Prim.Native.Nat.{_+_}
+use borrow.Author.Needs.{needs}
+use Rattle.switch.proofs.pair_holds.Statement.{statement}
+use Rattle.switch.proofs.pair_holds.Tie as tie
+
+mul-i : tie.Need-mul-i
+mul-i c = search needs
+
+displacement-requires : tie.Need-displacement-requires
+displacement-requires c κs = search needs
+
+displacement-requires-2 : tie.Need-displacement-requires-2
+displacement-requires-2 c κs = search needs
+
+setpoint-requires : tie.Need-setpoint-requires
+setpoint-requires c κs = search needs
+
+add-setpoint : tie.Need-add-setpoint
+add-setpoint c = search needs
+
+setpoint-requires-2 : tie.Need-setpoint-requires-2
+setpoint-requires-2 c κs = search needs
+
+pair-at-requires : tie.Need-pair-at-requires
+pair-at-requires c κs = search needs
+
+returns : tie.Need-returns
+returns c =
+    let x = c .before .before .before .before .before .before .args in
+    rw (pair-moved (x .top) (travelValue (x .c)) (x .l) (x .k) (x .p), c .pair-at .ensures, c .before .setpoint2 .ensures, c .before .before .setpoint .ensures, c .before .before .before .displacement2 .ensures, c .before .before .before .before .displacement .ensures)
+
+pub pair-holds-spec : {M : Type 1} → statement M
+pair-holds-spec =
+    tie.close
+    (tie.spec
+    mul-i
+    displacement-requires
+    displacement-requires-2
+    setpoint-requires
+    add-setpoint
+    setpoint-requires-2
+    pair-at-requires
+    returns)

@@ -1,0 +1,61 @@
+-- `switch::pulse_holds` meets its contract: the train from the moved ON setpoint, where the pair is used. Assumes nothing.
+use Rattle.switch.proofs.Advance.{moved-by}
+use Rattle.rules.specs.Switches.{advanceValue, onSetpoint, pulseHolds}
+use Rattle.rules.specs.Motion.{travelValue}
+use mathlib.Core.Path.{sym, _∙_}
+use borrow.Author.Needs.{needs}
+use Rattle.switch.proofs.pulse_holds.Statement.{statement}
+use Rattle.switch.proofs.pulse_holds.Tie as tie
+
+array-read-on : tie.Need-array-read-on
+array-read-on c = search needs
+
+array-read-off : tie.Need-array-read-off
+array-read-off c = search needs
+
+used-pair-requires : tie.Need-used-pair-requires
+used-pair-requires c κs = search needs
+
+displacement-requires : tie.Need-displacement-requires
+displacement-requires c κs = search needs
+
+moved-by-requires : tie.Need-moved-by-requires
+moved-by-requires c κs = search needs
+
+ahead-requires : tie.Need-ahead-requires
+ahead-requires c κs = search needs
+
+count-at-requires : tie.Need-count-at-requires
+count-at-requires c κs = search needs
+
+ahead-requires-2 : tie.Need-ahead-requires-2
+ahead-requires-2 c κs = search needs
+
+pulse-on-requires : tie.Need-pulse-on-requires
+pulse-on-requires c κs = search needs
+
+returns : tie.Need-returns
+unfolding pulseHolds
+returns c =
+    let x = c .before .before .before .before .before .before .before .before .before .args in
+    rw (moved-by (x .top) (advanceValue (x .l .onadvance)) (travelValue (x .c)) (onSetpoint (x .l) 0), sym (c .before .before .before .before .before .before .before .used-pair .ensures) ∙ c .before .before .before .before .before .before .if1 .taken, c .pulse-on .ensures, c .before .ahead2 .ensures, c .before .before .count-at .ensures, c .before .before .before .ahead .ensures, c .before .before .before .before .moved-by .ensures, c .before .before .before .before .before .displacement .ensures)
+
+returns-2 : tie.Need-returns-2
+unfolding pulseHolds
+returns-2 c = rw (sym (c .before .used-pair .ensures) ∙ c .if1 .left)
+
+pub pulse-holds-spec : {M : Type 1} → statement M
+pulse-holds-spec =
+    tie.close
+    (tie.spec
+    array-read-on
+    array-read-off
+    used-pair-requires
+    displacement-requires
+    moved-by-requires
+    ahead-requires
+    count-at-requires
+    ahead-requires-2
+    pulse-on-requires
+    returns
+    returns-2)

@@ -126,16 +126,6 @@ fn code_of(n: u16) -> DecimalCode
     }
 }
 
-// One less, and 0 of 0.
-fn less_one(n: u16) -> u16
-    ensures { λ r. ⌜ r ≡ n - 1 ⌝ }
-{
-    if n == 0 {
-        return 0;
-    }
-    n - 1
-}
-
 // One is true and the other is not.
 fn differ(a: bool, b: bool) -> bool
     ensures { λ r. ⌜ r ≡ xor a b ⌝ }
@@ -203,7 +193,7 @@ fn scalars_of(file: &[u16]) -> Scalars
     ensures { λ r. ⌜ r ≡ programming.setupOf (now (file .entry)) 0 .scalars ⌝ }
 {
     let multiplier = word::word_at(file, 8);
-    let divider = less_one(word::word_at(file, 9));
+    let divider = word::one_less(word::word_at(file, 9));
     let code = code_of(word::word_at(file, 10));
     Scalars {
         multiplier: multiplier,
@@ -219,7 +209,7 @@ fn setup_of(file: &[u16], raw: u16) -> Setup
     let command = word::word_at(file, 0);
     let scalars = scalars_of(file);
     Setup {
-        top: less_one(word::word_at(file, 1)),
+        top: word::one_less(word::word_at(file, 1)),
         preset: word::word_at(file, 2),
         offset: offset_of(file, raw),
         reversed: word::bit(command, 4),

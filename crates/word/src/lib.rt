@@ -3,7 +3,7 @@
 ghost use mathlib.Core.Path.{_≡_};
 ghost use mathlib.Core.List.{[], _∷_};
 ghost use mathlib.Core.Bool.{false, not, cond};
-ghost use Prim.Native.Nat.{_+_, _<_};
+ghost use Prim.Native.Nat.{_+_, _-_, _<_};
 ghost use lib.Dec.{leb};
 ghost use lib.ListN.{length, getD};
 ghost use Rattle.rules.specs.Words as words;
@@ -125,4 +125,14 @@ fn digit(b: bool) -> u16
     ensures { λ r. ⌜ (r ≡ words.digit b) × (r < 2) ⌝ }
 {
     if b { 1 } else { 0 }
+}
+
+// One less, and 0 of 0.
+pub fn one_less(n: u16) -> u16
+    ensures { λ r. ⌜ r ≡ n - 1 ⌝ }
+{
+    if n == 0 {
+        return 0;
+    }
+    n - 1
 }

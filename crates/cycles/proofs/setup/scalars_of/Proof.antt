@@ -9,8 +9,8 @@ word-at-requires c κs = search needs
 word-at-requires-2 : tie.Need-word-at-requires-2
 word-at-requires-2 c κs = search needs
 
-less-one-requires : tie.Need-less-one-requires
-less-one-requires c κs = search needs
+one-less-requires : tie.Need-one-less-requires
+one-less-requires c κs = search needs
 
 word-at-requires-3 : tie.Need-word-at-requires-3
 word-at-requires-3 c κs = search needs
@@ -20,7 +20,7 @@ code-of-requires c κs = search needs
 
 returns : tie.Need-returns
 unfolding setupOf
-returns c = rw (c .code-of .ensures, c .before .word-at3 .ensures, c .before .before .less-one .ensures, c .before .before .before .word-at2 .ensures, c .before .before .before .before .word-at .ensures)
+returns c = rw (c .code-of .ensures, c .before .word-at3 .ensures, c .before .before .one-less .ensures, c .before .before .before .word-at2 .ensures, c .before .before .before .before .word-at .ensures)
 
 pub scalars-of-spec : {M : Type 1} → statement M
 scalars-of-spec =
@@ -28,7 +28,7 @@ scalars-of-spec =
     (tie.spec
     word-at-requires
     word-at-requires-2
-    less-one-requires
+    one-less-requires
     word-at-requires-3
     code-of-requires
     returns)

@@ -12,8 +12,8 @@ scalars-of-requires c κs = search needs
 word-at-requires-2 : tie.Need-word-at-requires-2
 word-at-requires-2 c κs = search needs
 
-less-one-requires : tie.Need-less-one-requires
-less-one-requires c κs = search needs
+one-less-requires : tie.Need-one-less-requires
+one-less-requires c κs = search needs
 
 word-at-requires-3 : tie.Need-word-at-requires-3
 word-at-requires-3 c κs = search needs
@@ -50,7 +50,7 @@ word-at-requires-8 c κs = search needs
 
 returns : tie.Need-returns
 unfolding setupOf
-returns c = rw (c .word-at8 .ensures, c .before .word-at7 .ensures, c .before .before .word-at6 .ensures, c .before .before .before .word-at5 .ensures, c .before .before .before .before .word-at4 .ensures, c .before .before .before .before .before .bit4 .ensures, c .before .before .before .before .before .before .bit3 .ensures, c .before .before .before .before .before .before .before .bit2 .ensures, c .before .before .before .before .before .before .before .before .bit .ensures, c .before .before .before .before .before .before .before .before .before .offset-of .ensures, c .before .before .before .before .before .before .before .before .before .before .word-at3 .ensures, c .before .before .before .before .before .before .before .before .before .before .before .less-one .ensures, c .before .before .before .before .before .before .before .before .before .before .before .before .word-at2 .ensures, c .before .before .before .before .before .before .before .before .before .before .before .before .before .scalars-of .ensures, c .before .before .before .before .before .before .before .before .before .before .before .before .before .before .word-at .ensures)
+returns c = rw (c .word-at8 .ensures, c .before .word-at7 .ensures, c .before .before .word-at6 .ensures, c .before .before .before .word-at5 .ensures, c .before .before .before .before .word-at4 .ensures, c .before .before .before .before .before .bit4 .ensures, c .before .before .before .before .before .before .bit3 .ensures, c .before .before .before .before .before .before .before .bit2 .ensures, c .before .before .before .before .before .before .before .before .bit .ensures, c .before .before .before .before .before .before .before .before .before .offset-of .ensures, c .before .before .before .before .before .before .before .before .before .before .word-at3 .ensures, c .before .before .before .before .before .before .before .before .before .before .before .one-less .ensures, c .before .before .before .before .before .before .before .before .before .before .before .before .word-at2 .ensures, c .before .before .before .before .before .before .before .before .before .before .before .before .before .scalars-of .ensures, c .before .before .before .before .before .before .before .before .before .before .before .before .before .before .word-at .ensures)
 
 pub setup-of-spec : {M : Type 1} → statement M
 setup-of-spec =
@@ -59,7 +59,7 @@ setup-of-spec =
     word-at-requires
     scalars-of-requires
     word-at-requires-2
-    less-one-requires
+    one-less-requires
     word-at-requires-3
     offset-of-requires
     bit-requires

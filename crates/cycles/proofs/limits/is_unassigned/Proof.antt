@@ -25,7 +25,7 @@ returns-2 : tie.Need-returns-2
 returns-2 c = rw (← c .before .one-less .ensures) (rw (c .before .before .if1 .left))
 
 returns-3 : tie.Need-returns-3
-returns-3 c = 
+returns-3 c =
     let e : length (c .before .before .before .args .t2) ≡ 32 = search needs in
     let h : length (c .before .before .before .args .t2) ≤ c .before .one-less .result = omega (arith, e, c .if2 .left) in
     rw (← c .before .one-less .ensures, List·getD-eq-default (c .before .before .before .args .t2) 0 h) (rw (c .before .before .if1 .left))

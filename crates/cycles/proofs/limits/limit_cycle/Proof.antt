@@ -17,7 +17,7 @@ ten c = search needs
 
 returns : tie.Need-returns
 unfolding limitCall limitFileAfter limitCycle limitFile turnedAway
-returns c = 
+returns c =
     let e = ne-eqb _ _ (c .if1 .taken) in
     (rw e, rw e)
 
@@ -62,13 +62,14 @@ same-length c = search needs
 
 returns-2 : tie.Need-returns-2
 unfolding limitCall limitFileAfter limitCycle limitFile limitStatus cycle limitActs opened
-returns-2 c = 
+returns-2 c =
     let e = eq-eqb _ _ (c .before .before .before .before .before .before .before .before .before .before .before .before .before .before .before .before .before .before .before .before .before .before .before .before .if1 .left) in
     let a : acts LimitCycle (getD (c .before .before .before .before .before .before .before .before .before .before .before .before .before .before .before .before .before .before .before .before .before .before .before .before .before .before .args .file .now) 0 0) (c .before .before .before .before .before .before .before .before .before .before .before .before .before .before .before .before .before .before .before .before .before .before .before .before .before .before .args .m .configuration) ≡ true = unfold acts in (sym (c .before .before .before .before .before .before .before .before .before .before .before .before .before .before .before .before .before .before .before .acts .ensures) ∙ c .before .before .before .before .before .before .before .before .before .before .before .before .before .before .before .before .before .before .if2 .taken) in
     let n = ten (c .before .before .before .before .before .before .before) in
-    let l : leb (630 + length (c .before .before .before .before .before .before .before .limit-status .result)) (length (c .before .before .before .before .before .before .before .before .before .before .before .before .before .before .before .before .before .before .before .before .before .before .before .before .before .before .args .file .now)) ≡ true = le-leb (630 + length (c .before .before .before .before .before .before .before .limit-status .result)) (length (c .before .before .before .before .before .before .before .before .before .before .before .before .before .before .before .before .before .before .before .before .before .before .before .before .before .before .args .file .now)) (omega (arith, n, c .before .before .before .before .before .before .before .before .before .before .before .before .before .before .before .before .before .before .before .before .before .before .before .before .if1 .left)) in
-    (rw (c .finished .ensures, c .before .limit-start .ensures, c .before .before .before .before .before .before .before .before .before .limit-acts .ensures, c .before .before .before .before .before .before .before .before .before .before .before .before .before .before .before .limit-errors .ensures, c .before .before .before .before .before .before .before .before .before .before .before .opened .ensures, c .before .before .before .before .before .before .before .before .before .before .before .before .bit .ensures) (rw (e, a)),
-    rw (c .before .before .before .before .store .ensures, l, c .before .before .before .before .before .before .before .limit-status .ensures, c .before .before .before .before .before .before .before .before .before .limit-acts .ensures, c .before .before .before .before .before .before .before .before .before .before .before .before .before .failing-limit .ensures, c .before .before .before .before .before .before .before .before .before .before .before .before .before .before .before .limit-errors .ensures, c .before .before .before .before .before .before .before .before .before .before .before .opened .ensures, c .before .before .before .before .before .before .before .before .before .before .before .before .bit .ensures) (rw (e, a)))
+    let l : leb (630 + length (c .before .before .before .before .before .before .before .limit-status .result)) (length (c .before .before .before .before .before .before .before .before .before .before .before .before .before .before .before .before .before .before .before .before .before .before .before .before .before .before .args .file .now)) ≡ true = le-leb (630 + length (c .before .before .before .before .before .before .before .limit-status .result)) (length (c .before .before .before .before .before .before .before .before .before .before .before .before .before .before .before .before .before .before .before .before .before .before .before .before .before .before .args .file .now)) (omega (arith, n, c .before .before .before .before .before .before .before .before .before .before .before .before .before .before .before .before .before .before .before .before .before .before .before .before .if1 .left)) in (
+      rw (c .finished .ensures, c .before .limit-start .ensures, c .before .before .before .before .before .before .before .before .before .limit-acts .ensures, c .before .before .before .before .before .before .before .before .before .before .before .before .before .before .before .limit-errors .ensures, c .before .before .before .before .before .before .before .before .before .before .before .opened .ensures, c .before .before .before .before .before .before .before .before .before .before .before .before .bit .ensures) (rw (e, a)),
+      rw (c .before .before .before .before .store .ensures, l, c .before .before .before .before .before .before .before .limit-status .ensures, c .before .before .before .before .before .before .before .before .before .limit-acts .ensures, c .before .before .before .before .before .before .before .before .before .before .before .before .before .failing-limit .ensures, c .before .before .before .before .before .before .before .before .before .before .before .before .before .before .before .limit-errors .ensures, c .before .before .before .before .before .before .before .before .before .before .before .opened .ensures, c .before .before .before .before .before .before .before .before .before .before .before .before .bit .ensures) (rw (e, a)),
+    )
 
 idle-cycle-requires : tie.Need-idle-cycle-requires
 idle-cycle-requires c κs = search needs
@@ -78,7 +79,7 @@ finished-requires-2 c κs = search needs
 
 returns-3 : tie.Need-returns-3
 unfolding limitCall limitFileAfter limitCycle limitFile cycle idleCycle
-returns-3 c = 
+returns-3 c =
     let e = eq-eqb _ _ (c .before .before .before .before .before .before .before .before .if1 .left) in
     let a : acts LimitCycle (getD (c .before .before .before .before .before .before .before .before .before .before .args .file .now) 0 0) (c .before .before .before .before .before .before .before .before .before .before .args .m .configuration) ≡ false = unfold acts in (sym (c .before .before .before .acts .ensures) ∙ c .before .before .if2 .left) in
     (rw (c .finished2 .ensures, c .before .idle-cycle .ensures) (rw (e, a)), rw (e, a))

@@ -44,16 +44,17 @@ loop-less : tie.Need-loop-less Inv-loop μ-loop
 loop-less c = search needs
 
 loop-again : tie.Need-loop-again Inv-loop μ-loop
-loop-again c = 
+loop-again c =
     let l = c .before .before .loop in
-    let a = c .before .before .before .before .args in
-    (omega arith,
-    simp length-set (l .inv .1),
-    rw (add-one (l .i), take-suc-set (l .limits) (l .i) (c .limit-from .result) (omega (arith, l .inv .1)), l .inv .2, c .limit-from .ensures)
-    (rw (add-comm 1 (l .i)) at (table-more (l .i) 1 (limitFrom (a .m) (a .file .now)))))
+    let a = c .before .before .before .before .args in (
+      omega arith,
+      simp length-set (l .inv .1),
+      rw (add-one (l .i), take-suc-set (l .limits) (l .i) (c .limit-from .result) (omega (arith, l .inv .1)), l .inv .2, c .limit-from .ensures)
+          (rw (add-comm 1 (l .i)) at (table-more (l .i) 1 (limitFrom (a .m) (a .file .now)))),
+    )
 
 returns : tie.Need-returns Inv-loop μ-loop
-returns c = 
+returns c =
     let l = c .before .loop in
     let e : l .i ≡ 32 = omega arith in
     sym (take-all 32 (l .limits) (omega (arith, l .inv .1))) ∙ rw e at (l .inv .2)

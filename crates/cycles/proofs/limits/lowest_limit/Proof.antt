@@ -35,7 +35,7 @@ loop-less : tie.Need-loop-less Inv-loop μ-loop
 loop-less c = omega arith
 
 loop-again : tie.Need-loop-again Inv-loop μ-loop
-loop-again c = 
+loop-again c =
     let a = c .before .before .before .before .before .before .args in
     let f : ℕ → Bool = λ n. not (eqb (bitsOf (a .m) (a .top + 1) (unassigned (a .independent) (a .owners) n) (a .file .now) n) 0) in
     let e : f (c .before .before .before .before .loop .left) ≡ true = rw (← c .before .before .is-unassigned .ensures, ← c .before .bits-of .ensures) (rw (ne-eqb _ _ (c .if1 .taken))) in
@@ -45,14 +45,14 @@ loop-less-2 : tie.Need-loop-less-2 Inv-loop μ-loop
 loop-less-2 c = omega arith
 
 loop-again-2 : tie.Need-loop-again-2 Inv-loop μ-loop
-loop-again-2 c = 
+loop-again-2 c =
     let a = c .before .before .before .before .before .before .args in
     let f : ℕ → Bool = λ n. not (eqb (bitsOf (a .m) (a .top + 1) (unassigned (a .independent) (a .owners) n) (a .file .now) n) 0) in
     let e : f (c .before .before .before .before .loop .left) ≡ false = rw (← c .before .before .is-unassigned .ensures, ← c .before .bits-of .ensures) (rw (eq-eqb _ _ (c .if1 .left))) in
     (omega arith, c .before .before .before .before .loop .inv .1 ∙ rw e at (lowest-turn 32 (c .before .before .before .before .loop .left) f (omega arith) (omega arith)))
 
 returns : tie.Need-returns Inv-loop μ-loop
-returns c = 
+returns c =
     let z : c .before .loop .left ≡ 0 = omega arith in
     rw z at (c .before .loop .inv .1)
 

@@ -12,9 +12,9 @@ use lib.Dec.{ltb, leb, eqb, leb·suc-suc}
 use lib.IntN.{subℕ}
 use Rattle.rules.specs.Words.{bit, lowestOf, modulo}
 use Rattle.rules.specs.Motion.{turned, scaledPosition}
-use Rattle.rules.specs.Programming.{numberOf, presetOffset, leavesRange, nudgeSetpointBad, readerRefusal}
+use Rattle.rules.specs.Programming.{numberOf, presetOffset, leavesRange, nudgedIf, resultBad, nudgeSetpointBad, readerRefusal}
 use Rattle.rules.specs.declared.Limit.{Limit}
-use Rattle.rules.specs.Switches.{onSetpoint, offSetpoint}
+use Rattle.rules.specs.Switches.{usedPair, onSetpoint, offSetpoint}
 use Rattle.rules.proofs.Laws.{modulo-natural}
 
 -- the exclusive or, by its first argument
@@ -96,11 +96,15 @@ third-false true b d e h = absurd (true≢false h)
 module _ (sf : ℕ) (l : Limit) (k w : ℕ) (good : nudgeSetpointBad sf l k w ≡ false) where
   pub on-stays : (bit w 8 && leavesRange sf (bit w 10) (onSetpoint l k)) ≡ false
   unfolding nudgeSetpointBad
-  on-stays = second-false _ _ _ _ good
+  on-stays =
+      second-false (not (usedPair (onSetpoint l k) (offSetpoint l k))) (bit w 8 && leavesRange sf (bit w 10) (onSetpoint l k)) (bit w 9 && leavesRange sf (bit w 10) (offSetpoint l k))
+      (resultBad sf (l .switch) (nudgedIf (bit w 8) (bit w 10) (onSetpoint l k)) (nudgedIf (bit w 9) (bit w 10) (offSetpoint l k))) good
 
   pub off-stays : (bit w 9 && leavesRange sf (bit w 10) (offSetpoint l k)) ≡ false
   unfolding nudgeSetpointBad
-  off-stays = third-false _ _ _ _ good
+  off-stays =
+      third-false (not (usedPair (onSetpoint l k) (offSetpoint l k))) (bit w 8 && leavesRange sf (bit w 10) (onSetpoint l k)) (bit w 9 && leavesRange sf (bit w 10) (offSetpoint l k))
+      (resultBad sf (l .switch) (nudgedIf (bit w 8) (bit w 10) (onSetpoint l k)) (nudgedIf (bit w 9) (bit w 10) (offSetpoint l k))) good
 
 -- ---- The block reader
 

@@ -10,7 +10,7 @@ returns c = rw (c .if1 .taken)
 
 returns-2 : tie.Need-returns-2
 unfolding leavesRange
-returns-2 c = rw (c .if1 .left) (leb-both _ _)
+returns-2 c = rw (c .if1 .left) (leb-both (c .before .args .top) (c .before .args .x))
 
 pub leaves-range-spec : {M : Type 1} → statement M
 leaves-range-spec = tie.close (tie.spec returns returns-2)

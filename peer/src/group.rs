@@ -6,11 +6,11 @@ use crate::pair::{distance, pair_holds, sum, Pair};
 
 pub const GROUPS: usize = 6;
 
-const QUANTITY_BITS: u16 = 0x001f;
-const MODE_SHIFT: u16 = 8;
-const FIRST_CYCLE_VIRTUAL: u16 = 1 << 13;
-const GROUP_VIRTUAL: u16 = 1 << 14;
-const GROUP_USED: u16 = 1 << 15;
+pub(crate) const QUANTITY_BITS: u16 = 0x001f;
+pub(crate) const MODE_SHIFT: u16 = 8;
+pub(crate) const FIRST_CYCLE_VIRTUAL: u16 = 1 << 13;
+pub(crate) const GROUP_VIRTUAL: u16 = 1 << 14;
+pub(crate) const GROUP_USED: u16 = 1 << 15;
 /// Bits 5 to 7, 11 and 12 of the control word have no name.
 const UNNAMED_BITS: u16 = 0x18e0;
 
@@ -156,13 +156,13 @@ pub struct GroupState {
     /// Added to Machine Position in Modes 1 and 2.
     shift: u16,
     /// The next edge is taken.
-    armed: bool,
+    pub(crate) armed: bool,
     /// The dwell held at the end of the last step.
-    in_dwell: bool,
-    input: bool,
-    first_cycle: bool,
+    pub(crate) in_dwell: bool,
+    pub(crate) input: bool,
+    pub(crate) first_cycle: bool,
     /// A qualifying step came since the latest dwell began.
-    qualified: bool,
+    pub(crate) qualified: bool,
     pub open: bool,
 }
 
@@ -207,7 +207,7 @@ impl GroupState {
         position
     }
 
-    fn position(
+    pub(crate) fn position(
         &self,
         program: &GroupProgram,
         machine: MachinePosition,

@@ -9,7 +9,7 @@ pub const SAMPLE_WORDS: usize = 9;
 
 /// Bits of the LS Enable and First Cycle Input among a kind's inputs.
 const LS_ENABLE: u16 = 6;
-const FIRST_CYCLE: u16 = 7;
+pub(crate) const FIRST_CYCLE: u16 = 7;
 
 const REAL: u32 = 0x0000_ffff;
 const VIRTUAL: u32 = 0xffff_0000;

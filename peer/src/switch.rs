@@ -14,7 +14,7 @@ pub const OUTPUTS: usize = 32;
 
 /// What a switch does within its pairs.
 #[derive(Clone, Copy, Debug, PartialEq, Eq)]
-enum Action {
+pub(crate) enum Action {
     Normal,
     Pulse { quantity: u16, on_count: u16 },
     Timed { steps: u32 },
@@ -89,9 +89,9 @@ impl Nudge {
 /// A programmed limit switch.
 #[derive(Clone, Debug, PartialEq, Eq)]
 pub struct Switch {
-    action: Action,
+    pub(crate) action: Action,
     /// As programmed; pulse and timed switches use the first only.
-    pairs: [Pair; PAIRS],
+    pub(crate) pairs: [Pair; PAIRS],
     /// ON and OFF advance in tenths of a ms.
     advances: [i16; 2],
     /// The used pairs in block order, moved by the advances at the present c.

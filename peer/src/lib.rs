@@ -7,6 +7,7 @@ mod step;
 
 pub mod blocks;
 pub mod camrun;
+pub mod compare;
 pub mod generate;
 pub mod group;
 pub mod limit_block;

@@ -1,8 +1,8 @@
 //! Lists of programming calls without steps.
 
 use crate::generate::call_list::CallList;
+use crate::generate::file_kind::{FileKind, FILE_KINDS};
 use crate::generate::session::Session;
-use crate::generate::spoil::{FileKind, FILE_KINDS};
 
 /// The list of a seed.
 pub fn cycle_list(seed: u64) -> CallList {

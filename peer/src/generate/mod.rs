@@ -6,13 +6,16 @@ mod call_list;
 #[cfg(test)]
 mod coverage;
 mod cycle_lists;
+mod file_kind;
 mod numbers;
 mod program;
 mod samples;
 mod session;
 mod spoil;
 mod step_lists;
+mod traces;
 
 pub use call_list::CallList;
 pub use cycle_lists::cycle_list;
 pub use step_lists::{step_list, USUAL_STEPS};
+pub use traces::{damaged_trace, whole_trace, USUAL_SAMPLES};

@@ -2,6 +2,7 @@
 
 use crate::blocks::{group_block_at, limit_block_at, GROUP_BLOCK_WORDS, LIMIT_BLOCK_WORDS};
 use crate::cycles::{GROUP_COMMAND, M0_WORDS, M1_WORDS};
+use crate::generate::file_kind::FileKind;
 use crate::generate::numbers::Numbers;
 use crate::group::{
     Kind, FIRST_CYCLE_VIRTUAL, GROUPS, GROUP_USED, GROUP_VIRTUAL, MODE_SHIFT, QUANTITY_BITS,
@@ -106,8 +107,25 @@ impl Program {
         outputs_where(|output| self.limit_block(output) != [0; LIMIT_BLOCK_WORDS])
     }
 
-    /// Draws setup words. Another SF or mode drops groups and limits.
-    pub fn draw_setup(&mut self, numbers: &mut Numbers, scale: u16, independent: bool) {
+    /// Draws sound words of a kind.
+    pub fn draw(&mut self, numbers: &mut Numbers, kind: FileKind) {
+        match kind {
+            FileKind::Setup => {
+                let (scale, independent) = (draw_scale(numbers), numbers.one_in(4));
+                self.draw_setup(numbers, scale, independent);
+            }
+            FileKind::Group => self.draw_groups(numbers),
+            FileKind::Limit => self.draw_limits(numbers),
+        }
+    }
+
+    /// Draws setup words with the SF and mode that are in force.
+    pub fn draw_keeping_setup(&mut self, numbers: &mut Numbers) {
+        self.draw_setup(numbers, self.scale(), self.is_independent());
+    }
+
+    /// Another SF or mode drops groups and limits.
+    fn draw_setup(&mut self, numbers: &mut Numbers, scale: u16, independent: bool) {
         if scale != self.scale() || independent != self.is_independent() {
             self.m0[GROUP_COMMAND..].fill(0);
             self.m1.fill(0);
@@ -136,7 +154,7 @@ impl Program {
     }
 
     /// Draws group blocks; this drops the limit programs.
-    pub fn draw_groups(&mut self, numbers: &mut Numbers) {
+    fn draw_groups(&mut self, numbers: &mut Numbers) {
         self.m1.fill(0);
         self.m0[GROUP_COMMAND..].fill(0);
         let mut left = [self.real_count, 16];
@@ -180,7 +198,7 @@ impl Program {
     }
 
     /// Draws limit blocks for most of the outputs that may have one.
-    pub fn draw_limits(&mut self, numbers: &mut Numbers) {
+    fn draw_limits(&mut self, numbers: &mut Numbers) {
         self.m1.fill(0);
         let assigned = self.assigned();
         let mut timed = [0; 2];
@@ -212,7 +230,7 @@ fn outputs_where(answer: impl Fn(usize) -> bool) -> u32 {
         .fold(0, |set, output| set | 1 << output)
 }
 
-pub fn draw_scale(numbers: &mut Numbers) -> u16 {
+fn draw_scale(numbers: &mut Numbers) -> u16 {
     match numbers.below(3) {
         0 => numbers.between(LOWEST_SCALE, HIGHEST_SCALE),
         _ => numbers.pick(&[2, 3, 5, 100, 360, 360, 1000, 1000, 1024]),

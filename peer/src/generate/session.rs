@@ -2,59 +2,14 @@
 //! force. Cycles are sent in every manner: once, again, with the
 //! acknowledge left standing, with and without ClrErr.
 
-use crate::cycles::{
-    NudgeCycle, CLEAR_ERRORS, GROUP_COMMAND, GROUP_STATUS, LIMIT_STATUS, M0_WORDS, M1_WORDS,
-    NUDGE_CLEAR_ERRORS, SETUP_STATUS, TRANSMIT,
-};
+use crate::cycles::{NudgeCycle, CLEAR_ERRORS, M0_WORDS, M1_WORDS, NUDGE_CLEAR_ERRORS, TRANSMIT};
 use crate::generate::call_list::CallList;
+use crate::generate::file_kind::FileKind;
 use crate::generate::numbers::Numbers;
-use crate::generate::program::{draw_scale, Program, NORMAL};
-use crate::generate::spoil::FileKind;
+use crate::generate::program::{Program, NORMAL};
 use crate::group::GROUPS;
 use crate::limit_block::{block_pair, PAIRS};
-use crate::setup::SETUP_WORDS;
 use crate::switch::OUTPUTS;
-
-impl FileKind {
-    fn opcode(self) -> u16 {
-        match self {
-            FileKind::Setup => 1,
-            FileKind::Group => 2,
-            FileKind::Limit => 3,
-        }
-    }
-
-    fn command(self) -> usize {
-        match self {
-            FileKind::Setup | FileKind::Limit => 0,
-            FileKind::Group => GROUP_COMMAND,
-        }
-    }
-
-    /// Words that the cycle reads.
-    pub fn data(self) -> std::ops::Range<usize> {
-        match self {
-            FileKind::Setup => 0..SETUP_WORDS,
-            FileKind::Group => GROUP_COMMAND..SETUP_STATUS,
-            FileKind::Limit => 0..LIMIT_STATUS,
-        }
-    }
-
-    fn status(self) -> std::ops::Range<usize> {
-        match self {
-            FileKind::Setup => SETUP_STATUS..GROUP_STATUS,
-            FileKind::Group => GROUP_STATUS..M0_WORDS,
-            FileKind::Limit => LIMIT_STATUS..M1_WORDS,
-        }
-    }
-
-    pub fn file(self, program: &Program) -> &[u16] {
-        match self {
-            FileKind::Setup | FileKind::Group => &program.m0,
-            FileKind::Limit => &program.m1,
-        }
-    }
-}
 
 pub struct Session {
     pub numbers: Numbers,
@@ -96,18 +51,10 @@ impl Session {
     /// The present programming with new words for one kind.
     fn draw_program(&mut self, kind: FileKind) -> Program {
         let mut program = self.program.clone();
-        let numbers = &mut self.numbers;
-        match kind {
-            FileKind::Setup if numbers.one_in(3) => {
-                let (scale, independent) = (program.scale(), program.is_independent());
-                program.draw_setup(numbers, scale, independent);
-            }
-            FileKind::Setup => {
-                let (scale, independent) = (draw_scale(numbers), numbers.one_in(4));
-                program.draw_setup(numbers, scale, independent);
-            }
-            FileKind::Group => program.draw_groups(numbers),
-            FileKind::Limit => program.draw_limits(numbers),
+        if kind == FileKind::Setup && self.numbers.one_in(3) {
+            program.draw_keeping_setup(&mut self.numbers);
+        } else {
+            program.draw(&mut self.numbers, kind);
         }
         program
     }
@@ -121,8 +68,7 @@ impl Session {
     /// A setup cycle that keeps SF and mode, and so groups and limits.
     pub fn keeping_setup(&mut self) {
         let mut program = self.program.clone();
-        let (scale, independent) = (program.scale(), program.is_independent());
-        program.draw_setup(&mut self.numbers, scale, independent);
+        program.draw_keeping_setup(&mut self.numbers);
         self.sound_cycle_of(FileKind::Setup, program);
     }
 
@@ -142,8 +88,7 @@ impl Session {
             self.clear_errors();
         }
         let mut program = self.program.clone();
-        let (scale, independent) = (draw_scale(&mut self.numbers), self.numbers.one_in(4));
-        program.draw_setup(&mut self.numbers, scale, independent);
+        program.draw(&mut self.numbers, FileKind::Setup);
         self.sound_cycle_of(FileKind::Setup, program);
         if !self.program.is_independent() {
             self.sound_cycle(FileKind::Group);

@@ -6,6 +6,7 @@ use crate::blocks::{
     LIMIT_BLOCK_WORDS,
 };
 use crate::cycles::{GROUP_COMMAND, LIMIT_STATUS, SETUP_STATUS};
+use crate::generate::file_kind::FileKind;
 use crate::generate::numbers::Numbers;
 use crate::generate::program::{draw_limit_block, Program, NORMAL, PULSE, TIMED};
 use crate::group::{self, FIRST_CYCLE_VIRTUAL, GROUPS, GROUP_USED, GROUP_VIRTUAL, QUANTITY_BITS};
@@ -14,16 +15,6 @@ use crate::limit_block::{
 };
 use crate::setup::{self, HIGHEST_SCALE, SETUP_WORDS};
 use crate::switch::OUTPUTS;
-
-/// Programming that a list can send.
-#[derive(Clone, Copy, Debug, PartialEq, Eq)]
-pub enum FileKind {
-    Setup,
-    Group,
-    Limit,
-}
-
-pub const FILE_KINDS: [FileKind; 3] = [FileKind::Setup, FileKind::Group, FileKind::Limit];
 
 const SETUP_ERRORS: [u16; 7] = [
     setup::SCALE_ERROR,

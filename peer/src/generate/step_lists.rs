@@ -1,9 +1,9 @@
 //! Lists with long runs of steps, programming cycles between them.
 
 use crate::generate::call_list::CallList;
+use crate::generate::file_kind::{FileKind, FILE_KINDS};
 use crate::generate::samples::Samples;
 use crate::generate::session::Session;
-use crate::generate::spoil::{FileKind, FILE_KINDS};
 
 /// Steps of a list where no number is given: two long windows of the speed.
 pub const USUAL_STEPS: usize = 5200;

@@ -64,6 +64,12 @@ impl Program {
         }
     }
 
+    /// Counts a step at which the tachometer is a third of a count below
+    /// TachOv, if the scalars are made for that.
+    pub fn edge_speed(&self) -> Option<u16> {
+        (self.m0[8] == EDGE_MULTIPLIER).then(|| self.m0[9] / EDGE_DIVISOR)
+    }
+
     pub fn active_states(&self) -> u16 {
         self.m0[11]
     }
@@ -136,6 +142,7 @@ impl Program {
         let response = if numbers.one_in(4) { 0 } else { TACH_RESPONSE };
         let [low1, high1] = draw_detector(numbers);
         let [low2, high2] = draw_detector(numbers);
+        let [multiplier, divisor, code] = draw_scalars(numbers);
         self.m0[..SETUP_WORDS].fill(0);
         self.m0[..12].copy_from_slice(&[
             command | preset | response,
@@ -146,9 +153,9 @@ impl Program {
             high1,
             low2,
             high2,
-            numbers.pick(&[0, 1, 1, 2, 3, 10, 100, 1000, 1099, 1100]),
-            numbers.pick(&[1, 1, 1, 2, 3, 7, 10, 62, 63]),
-            numbers.pick(&[0, 0, 1, 2, 3]),
+            multiplier,
+            divisor,
+            code,
             draw_states(numbers),
         ]);
     }
@@ -270,6 +277,22 @@ fn draw_detector(numbers: &mut Numbers) -> [u16; 2] {
         _ if low == high => [low, low ^ 1],
         _ => [low, high],
     }
+}
+
+/// One count a step is 293 rpm; times 671, by 6, that is 32767.17.
+const EDGE_MULTIPLIER: u16 = 671;
+const EDGE_DIVISOR: u16 = 6;
+
+/// Tachometer multiplier, divisor and decimal code.
+fn draw_scalars(numbers: &mut Numbers) -> [u16; 3] {
+    if numbers.one_in(8) {
+        return [EDGE_MULTIPLIER, EDGE_DIVISOR * numbers.between(1, 8), 0];
+    }
+    [
+        numbers.pick(&[0, 1, 1, 2, 3, 10, 100, 1000, 1099, 1100]),
+        numbers.pick(&[1, 1, 1, 2, 3, 7, 10, 62, 63]),
+        numbers.pick(&[0, 0, 1, 2, 3]),
+    ]
 }
 
 fn draw_states(numbers: &mut Numbers) -> u16 {

@@ -47,8 +47,11 @@ impl Motion {
     }
 
     /// Up to eight counts a step.
-    fn draw_run(numbers: &mut Numbers) -> Motion {
-        let speed = i64::from(numbers.between(1, 8)) * PARTS + i64::from(numbers.word());
+    fn draw_run(numbers: &mut Numbers, program: &Program) -> Motion {
+        let speed = match program.edge_speed() {
+            Some(counts) => i64::from(counts) * PARTS,
+            None => i64::from(numbers.between(1, 8)) * PARTS + i64::from(numbers.word()),
+        };
         Motion::Steady(numbers.pick(&[speed, speed, -speed]))
     }
 }
@@ -174,8 +177,9 @@ impl Samples {
 
     /// The machine runs with chattering inputs; tells for how many samples,
     /// an update of the speed being among them.
-    pub fn draw_run(&mut self, numbers: &mut Numbers, window: u32) -> u32 {
-        self.motion = Motion::draw_run(numbers);
+    pub fn draw_run(&mut self, numbers: &mut Numbers, program: &Program) -> u32 {
+        let window = program.window_steps();
+        self.motion = Motion::draw_run(numbers, program);
         let rarity = numbers.pick(&[2, 4, 6]);
         self.real.rarity = rarity;
         self.virt.rarity = rarity;
@@ -186,7 +190,8 @@ impl Samples {
 
     /// The machine stands; tells for how many samples, a stop being among
     /// them.
-    pub fn draw_stand(&mut self, numbers: &mut Numbers, window: u32) -> u32 {
+    pub fn draw_stand(&mut self, numbers: &mut Numbers, program: &Program) -> u32 {
+        let window = program.window_steps();
         self.motion = Motion::draw_standing(numbers);
         let rarity = numbers.pick(&[0, 2, 8]);
         self.real.rarity = rarity;

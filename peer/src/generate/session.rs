@@ -2,6 +2,7 @@
 //! force. Cycles are sent in every manner: once, again, with the
 //! acknowledge left standing, with and without ClrErr.
 
+use crate::blocks::limit_block_at;
 use crate::cycles::{NudgeCycle, CLEAR_ERRORS, M0_WORDS, M1_WORDS, NUDGE_CLEAR_ERRORS, TRANSMIT};
 use crate::generate::call_list::CallList;
 use crate::generate::file_kind::FileKind;
@@ -116,6 +117,10 @@ impl Session {
         let numbers = &mut self.numbers;
         if numbers.one_in(2) {
             file[kind.status()].fill_with(|| numbers.word());
+        }
+        if kind == FileKind::Limit && numbers.one_in(4) {
+            let missing = limit_block_at(usize::from(program.real_count))..limit_block_at(16);
+            file[missing].fill_with(|| numbers.word());
         }
         if kind != FileKind::Limit && numbers.one_in(3) {
             let data = file[kind.data()].to_vec();

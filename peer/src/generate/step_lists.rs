@@ -106,10 +106,15 @@ impl Run {
 
     /// Runs up to an update of the speed, then stands up to a stop.
     fn stop_and_go(&mut self) {
-        let window = self.session.program.window_steps();
-        let length = self.samples.draw_run(&mut self.session.numbers, window);
+        let Session {
+            numbers, program, ..
+        } = &mut self.session;
+        let length = self.samples.draw_run(numbers, program);
         self.run_steps(length);
-        let length = self.samples.draw_stand(&mut self.session.numbers, window);
+        let Session {
+            numbers, program, ..
+        } = &mut self.session;
+        let length = self.samples.draw_stand(numbers, program);
         self.run_steps(length);
     }
 

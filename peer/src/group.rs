@@ -60,8 +60,8 @@ pub enum Mode {
 }
 
 impl Mode {
-    fn of_control(control: u16) -> Option<Mode> {
-        match (control >> MODE_SHIFT) & 7 {
+    pub fn of_number(number: u16) -> Option<Mode> {
+        match number {
             0 => Some(Mode::Mode0),
             1 => Some(Mode::Mode1),
             2 => Some(Mode::Mode2),
@@ -71,6 +71,10 @@ impl Mode {
             _ => None,
         }
     }
+}
+
+fn mode_number(control: u16) -> u16 {
+    (control >> MODE_SHIFT) & 7
 }
 
 /// The programming of a used group.
@@ -103,7 +107,7 @@ pub fn group_block_errors(
     let [control, on, off, offset] = *block;
     let kind = Kind::virtual_if(control & GROUP_VIRTUAL != 0);
     let quantity = control & QUANTITY_BITS;
-    let mode = Mode::of_control(control);
+    let mode = Mode::of_number(mode_number(control));
     let first_cycle_missing =
         mode == Some(Mode::Mode5) && control & FIRST_CYCLE_VIRTUAL == 0 && !has_real_inputs;
     let mut errors = 0;
@@ -130,7 +134,7 @@ pub fn decode_group(block: &[u16; GROUP_BLOCK_WORDS]) -> GroupProgram {
     GroupProgram {
         kind: Kind::virtual_if(control & GROUP_VIRTUAL != 0),
         quantity: control & QUANTITY_BITS,
-        mode: Mode::of_control(control).unwrap_or(Mode::Mode0),
+        mode: Mode::of_number(mode_number(control)).unwrap_or(Mode::Mode0),
         first_cycle_kind: Kind::virtual_if(control & FIRST_CYCLE_VIRTUAL != 0),
         channel: Pair { on, off },
         offset,

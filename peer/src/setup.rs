@@ -72,13 +72,17 @@ pub struct Setup {
 }
 
 impl Setup {
-    /// The window W of the speed, in ms.
     pub fn window_ms(&self) -> u32 {
-        if self.fast_response {
-            120
-        } else {
-            504
-        }
+        window_ms(self.fast_response)
+    }
+}
+
+/// The window W of the speed, in ms.
+pub fn window_ms(fast_response: bool) -> u32 {
+    if fast_response {
+        120
+    } else {
+        504
     }
 }
 

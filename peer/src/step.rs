@@ -39,6 +39,11 @@ fn bit(set: u32, number: u16) -> bool {
     set >> number & 1 != 0
 }
 
+/// How many virtual outputs differ.
+pub fn changed_count(old: u16, new: u16) -> u32 {
+    (old ^ new).count_ones()
+}
+
 /// Off beats on.
 fn forced(states: u32, on: u32, off: u32) -> u32 {
     (states | on) & !off
@@ -174,7 +179,7 @@ impl Module {
         let off = join(real_off, virtual_off);
         let outputs = forced(lit, on, off) & self.present();
         let virtual_outputs = (outputs >> 16) as u16;
-        let changed = (self.last_virtual ^ virtual_outputs).count_ones();
+        let changed = changed_count(self.last_virtual, virtual_outputs);
         self.last_virtual = virtual_outputs;
         StepAnswer {
             refusal,

@@ -35,7 +35,7 @@ impl Window {
 
 /// How long a timed switch's pair has held.
 #[derive(Clone, Copy, Debug, Default, PartialEq, Eq)]
-struct Timer {
+pub struct Timer {
     held: bool,
     passed: u32,
 }
@@ -43,7 +43,7 @@ struct Timer {
 impl Timer {
     /// True while the pair holds and fewer than `limit` steps have passed
     /// since it began to hold.
-    fn step(&mut self, holds: bool, limit: u32) -> bool {
+    pub fn step(&mut self, holds: bool, limit: u32) -> bool {
         if !holds || !self.held {
             self.passed = 0;
         } else if self.passed < limit {

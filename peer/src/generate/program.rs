@@ -8,9 +8,10 @@ use crate::group::{
     Kind, FIRST_CYCLE_VIRTUAL, GROUPS, GROUP_USED, GROUP_VIRTUAL, MODE_SHIFT, QUANTITY_BITS,
 };
 use crate::limit_block::{DETECTOR_SHIFT, ENABLE_BIT, HIGHEST_ADVANCE, MOST_TIMED, PAIRS};
+use crate::motion::STEPS_PER_MS;
 use crate::pair::Pair;
 use crate::setup::{
-    COUNT_DIRECTION, HIGHEST_SCALE, LOWEST_SCALE, MODULE_TYPE, PRESET_BIT, SETUP_WORDS,
+    window_ms, COUNT_DIRECTION, HIGHEST_SCALE, LOWEST_SCALE, MODULE_TYPE, PRESET_BIT, SETUP_WORDS,
     SLC_INTERRUPT, TACH_RESPONSE,
 };
 use crate::switch::OUTPUTS;
@@ -56,12 +57,9 @@ impl Program {
         self.m0[0] & MODULE_TYPE != 0
     }
 
+    /// Steps from one update of the speed to the next.
     pub fn window_steps(&self) -> u32 {
-        if self.m0[0] & TACH_RESPONSE != 0 {
-            600
-        } else {
-            2520
-        }
+        window_ms(self.m0[0] & TACH_RESPONSE != 0) * STEPS_PER_MS
     }
 
     /// Counts a step at which the tachometer is a third of a count below

@@ -5,6 +5,7 @@
 mod cycles;
 mod step;
 
+pub mod bench;
 pub mod blocks;
 pub mod camrun;
 pub mod compare;

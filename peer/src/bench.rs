@@ -45,12 +45,17 @@ pub const SMALL: Case = Case {
 fn full_block(output: u16) -> [u16; LIMIT_BLOCK_WORDS] {
     let mut block = [0; LIMIT_BLOCK_WORDS];
     block[0] = 8192 * (output % 3);
-    block[1] = 10 + output;
-    block[2] = 65535 - output;
-    for pair in 0..PAIRS {
-        let on = (31 * output + 125 * pair as u16) % 1000;
-        block[3 + 2 * pair] = on;
-        block[4 + 2 * pair] = (on + 40 + output) % 1000;
+    let [on_advance, off_advance] = match output % 2 {
+        0 => [10 + output, 5 + output],
+        _ => [65526 - output, 65531 - output],
+    };
+    block[1] = on_advance;
+    block[2] = off_advance;
+    for index in 0..PAIRS {
+        let spacing = 125 + 3 * (output % 4);
+        let on = (31 * output + spacing * index as u16) % 1000;
+        block[3 + 2 * index] = on;
+        block[4 + 2 * index] = (on + 40 + output) % 1000;
     }
     block
 }

@@ -18,9 +18,11 @@ struct Programming {
 
 fn full() -> Programming {
     let limit = |n: u16| {
-        let mut block = vec![n % 3 << 13, 10 + n, (-1 - n as i16) as u16];
+        let sign = if n % 2 == 0 { 1 } else { -1 };
+        let advance = |tenths: u16| (sign * (tenths + n) as i16) as u16;
+        let mut block = vec![n % 3 << 13, advance(10), advance(5)];
         for k in 0..8 {
-            let on = (31 * n + 125 * k) % 1000;
+            let on = (31 * n + 125 * k + 3 * k * (n % 4)) % 1000;
             block.extend([on, (on + 40 + n) % 1000]);
         }
         block
@@ -138,7 +140,7 @@ fn outputs_of_the_full_card_all_light() {
             lit | u16::from_str_radix(word, 16).expect("hexadecimal")
         });
         assert_eq!(lit, 0xffff);
-        assert!(seen(field).len() > 50);
+        assert!(seen(field).len() > 100);
     }
     assert!(seen(3).len() > 10, "speeds");
     assert!(seen(10).len() > 3, "changed counts");

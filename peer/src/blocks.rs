@@ -15,6 +15,16 @@ pub const LIMIT_BLOCK_WORDS: usize = 19;
 /// Word of M1 at which the limit switch blocks begin.
 pub const LIMIT_BLOCKS_AT: usize = 2;
 
+/// Word of M0 at which a group's block begins, counted from 0.
+pub fn group_block_at(group: usize) -> usize {
+    GROUP_BLOCKS_AT + group * GROUP_BLOCK_WORDS
+}
+
+/// Word of M1 at which an output's block begins, counted from 0.
+pub fn limit_block_at(output: usize) -> usize {
+    LIMIT_BLOCKS_AT + output * LIMIT_BLOCK_WORDS
+}
+
 /// The lowest failing block, numbered from 1, and its error bits.
 #[derive(Clone, Copy, Debug, PartialEq, Eq)]
 pub struct BlockFault {

@@ -14,6 +14,10 @@ pub const M1_WORDS: usize = 650;
 
 /// Transmit bit of every command word.
 pub(crate) const TRANSMIT: u16 = 1 << 15;
+/// ClrErr of every command word but a nudge's.
+pub(crate) const CLEAR_ERRORS: u16 = 1 << 0;
+/// ClrErr of a nudge word.
+pub(crate) const NUDGE_CLEAR_ERRORS: u16 = 1 << 14;
 /// MsgIgn in a status word.
 const MESSAGE_IGNORED: u16 = 1 << 14;
 /// A reserved bit or word of group or limit data.
@@ -21,12 +25,12 @@ const RESERVED_ERROR: u16 = 1 << 15;
 /// All bits of a group or limit command word but 0 and 15.
 const RESERVED_COMMAND_BITS: u16 = 0x7ffe;
 
-const SETUP_STATUS: usize = 100;
-const GROUP_COMMAND: usize = 20;
+pub(crate) const SETUP_STATUS: usize = 100;
+pub(crate) const GROUP_COMMAND: usize = 20;
 const GROUP_RESERVED_AT: usize = 46;
-const GROUP_STATUS: usize = 110;
+pub(crate) const GROUP_STATUS: usize = 110;
 const LIMIT_RESERVED_AT: usize = 610;
-const LIMIT_STATUS: usize = 630;
+pub(crate) const LIMIT_STATUS: usize = 630;
 
 /// What a cycle call answers.
 #[derive(Clone, Copy, Debug, PartialEq, Eq)]
@@ -76,7 +80,7 @@ trait Cycle {
     type Program;
     /// The kind's bit of `Module::acknowledges`.
     const ACKNOWLEDGE: u8;
-    const CLEAR_ERRORS: u16 = 1 << 0;
+    const CLEAR_ERRORS: u16 = CLEAR_ERRORS;
     /// Clearing errors is then all that the cycle does.
     const ENDS_AFTER_CLEAR: bool = false;
 
@@ -260,12 +264,12 @@ impl Cycle for LimitCycle<'_> {
     }
 }
 
-struct NudgeCycle(u16);
+pub(crate) struct NudgeCycle(u16);
 
 impl NudgeCycle {
-    const ON: u16 = 1 << 8;
-    const OFF: u16 = 1 << 9;
-    const DOWN: u16 = 1 << 10;
+    pub(crate) const ON: u16 = 1 << 8;
+    pub(crate) const OFF: u16 = 1 << 9;
+    pub(crate) const DOWN: u16 = 1 << 10;
     const RESERVED: u16 = 0x3800;
 
     /// The output, counted from 0.
@@ -287,7 +291,7 @@ impl Cycle for NudgeCycle {
     /// Output and pair, counted from 0, and the pair's new setpoints.
     type Program = (usize, usize, Pair);
     const ACKNOWLEDGE: u8 = 1 << 3;
-    const CLEAR_ERRORS: u16 = 1 << 14;
+    const CLEAR_ERRORS: u16 = NUDGE_CLEAR_ERRORS;
     const ENDS_AFTER_CLEAR: bool = true;
 
     fn command(&self) -> u16 {

@@ -6,11 +6,11 @@ use crate::pair::{distance, pair_holds, sum, Pair};
 
 pub const GROUPS: usize = 6;
 
-const QUANTITY_BITS: u16 = 0x001f;
-const MODE_SHIFT: u16 = 8;
-const FIRST_CYCLE_VIRTUAL: u16 = 1 << 13;
-const GROUP_VIRTUAL: u16 = 1 << 14;
-const GROUP_USED: u16 = 1 << 15;
+pub(crate) const QUANTITY_BITS: u16 = 0x001f;
+pub(crate) const MODE_SHIFT: u16 = 8;
+pub(crate) const FIRST_CYCLE_VIRTUAL: u16 = 1 << 13;
+pub(crate) const GROUP_VIRTUAL: u16 = 1 << 14;
+pub(crate) const GROUP_USED: u16 = 1 << 15;
 /// Bits 5 to 7, 11 and 12 of the control word have no name.
 const UNNAMED_BITS: u16 = 0x18e0;
 
@@ -60,8 +60,8 @@ pub enum Mode {
 }
 
 impl Mode {
-    fn of_control(control: u16) -> Option<Mode> {
-        match (control >> MODE_SHIFT) & 7 {
+    pub fn of_number(number: u16) -> Option<Mode> {
+        match number {
             0 => Some(Mode::Mode0),
             1 => Some(Mode::Mode1),
             2 => Some(Mode::Mode2),
@@ -71,6 +71,10 @@ impl Mode {
             _ => None,
         }
     }
+}
+
+fn mode_number(control: u16) -> u16 {
+    (control >> MODE_SHIFT) & 7
 }
 
 /// The programming of a used group.
@@ -103,7 +107,7 @@ pub fn group_block_errors(
     let [control, on, off, offset] = *block;
     let kind = Kind::virtual_if(control & GROUP_VIRTUAL != 0);
     let quantity = control & QUANTITY_BITS;
-    let mode = Mode::of_control(control);
+    let mode = Mode::of_number(mode_number(control));
     let first_cycle_missing =
         mode == Some(Mode::Mode5) && control & FIRST_CYCLE_VIRTUAL == 0 && !has_real_inputs;
     let mut errors = 0;
@@ -130,7 +134,7 @@ pub fn decode_group(block: &[u16; GROUP_BLOCK_WORDS]) -> GroupProgram {
     GroupProgram {
         kind: Kind::virtual_if(control & GROUP_VIRTUAL != 0),
         quantity: control & QUANTITY_BITS,
-        mode: Mode::of_control(control).unwrap_or(Mode::Mode0),
+        mode: Mode::of_number(mode_number(control)).unwrap_or(Mode::Mode0),
         first_cycle_kind: Kind::virtual_if(control & FIRST_CYCLE_VIRTUAL != 0),
         channel: Pair { on, off },
         offset,
@@ -156,13 +160,13 @@ pub struct GroupState {
     /// Added to Machine Position in Modes 1 and 2.
     shift: u16,
     /// The next edge is taken.
-    armed: bool,
+    pub(crate) armed: bool,
     /// The dwell held at the end of the last step.
-    in_dwell: bool,
-    input: bool,
-    first_cycle: bool,
+    pub(crate) in_dwell: bool,
+    pub(crate) input: bool,
+    pub(crate) first_cycle: bool,
     /// A qualifying step came since the latest dwell began.
-    qualified: bool,
+    pub(crate) qualified: bool,
     pub open: bool,
 }
 
@@ -207,7 +211,7 @@ impl GroupState {
         position
     }
 
-    fn position(
+    pub(crate) fn position(
         &self,
         program: &GroupProgram,
         machine: MachinePosition,

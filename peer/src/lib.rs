@@ -5,9 +5,13 @@
 mod cycles;
 mod step;
 
+pub mod bench;
 pub mod blocks;
 pub mod camrun;
+pub mod compare;
+pub mod generate;
 pub mod group;
+pub mod leaves;
 pub mod limit_block;
 pub mod module;
 pub mod motion;
@@ -21,4 +25,4 @@ pub mod words;
 pub use blocks::{read_block, Block};
 pub use cycles::{Answer, M0_WORDS, M1_WORDS};
 pub use module::{Module, Refusal};
-pub use step::{StepAnswer, SAMPLE_WORDS};
+pub use step::{changed_count, StepAnswer, SAMPLE_WORDS};

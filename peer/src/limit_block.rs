@@ -9,9 +9,9 @@ use crate::switch::{Switches, OUTPUTS};
 pub const PAIRS: usize = 8;
 
 pub(crate) const ENABLE_BIT: u16 = 1 << 15;
-const DETECTOR_SHIFT: u16 = 13;
+pub(crate) const DETECTOR_SHIFT: u16 = 13;
 const RESERVED_CONTROL_BITS: u16 = 0x1ffc;
-const HIGHEST_ADVANCE: i16 = 999;
+pub(crate) const HIGHEST_ADVANCE: i16 = 999;
 /// Timed switches of one kind.
 pub const MOST_TIMED: usize = 4;
 

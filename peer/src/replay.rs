@@ -9,9 +9,9 @@ use crate::step::{StepAnswer, SAMPLE_WORDS};
 use crate::words::Words;
 
 /// A cycle over a file: its name, its file's length and status words.
-struct FileCycle {
-    name: &'static str,
-    cycle: fn(&mut Module, &mut [u16]) -> Answer,
+pub(crate) struct FileCycle {
+    pub name: &'static str,
+    pub cycle: fn(&mut Module, &mut [u16]) -> Answer,
     file_words: usize,
     status_start: usize,
     status_end: usize,
@@ -42,7 +42,7 @@ static LIMIT: FileCycle = FileCycle {
 };
 
 /// One call of the list.
-enum Call {
+pub(crate) enum Call {
     PowerUp(u16),
     File(&'static FileCycle, Vec<u16>),
     Nudge(u16),
@@ -51,7 +51,7 @@ enum Call {
 }
 
 /// The next call, or None for an unknown opcode or a call cut short.
-fn read_call(words: &mut Words<impl BufRead>) -> Option<Call> {
+pub(crate) fn read_call(words: &mut Words<impl BufRead>) -> Option<Call> {
     Some(match words.next_word()? {
         0 => Call::PowerUp(words.next_word()?),
         1 => Call::File(&SETUP, read_file(words)?),
@@ -96,7 +96,11 @@ pub fn run(input: impl BufRead, output: &mut impl Write) -> io::Result<()> {
     Ok(())
 }
 
-fn make_call(call: Call, module: &mut Option<Module>, output: &mut impl Write) -> io::Result<()> {
+pub(crate) fn make_call(
+    call: Call,
+    module: &mut Option<Module>,
+    output: &mut impl Write,
+) -> io::Result<()> {
     match (call, module) {
         (Call::PowerUp(number), module) => power_up(number, module, output),
         (Call::Block(block, m0, m1), _) => {

@@ -6,15 +6,15 @@ use crate::pair::distance;
 /// Setup words at the start of M0.
 pub const SETUP_WORDS: usize = 20;
 
-const PRESET_BIT: u16 = 1 << 1;
-const COUNT_DIRECTION: u16 = 1 << 4;
-const TACH_RESPONSE: u16 = 1 << 5;
-const SLC_INTERRUPT: u16 = 1 << 8;
-const MODULE_TYPE: u16 = 1 << 9;
+pub(crate) const PRESET_BIT: u16 = 1 << 1;
+pub(crate) const COUNT_DIRECTION: u16 = 1 << 4;
+pub(crate) const TACH_RESPONSE: u16 = 1 << 5;
+pub(crate) const SLC_INTERRUPT: u16 = 1 << 8;
+pub(crate) const MODULE_TYPE: u16 = 1 << 9;
 /// All bits of word 0 but 0, 1, 4, 5, 8, 9 and 15.
 const RESERVED_COMMAND_BITS: u16 = 0x7ccc;
 
-const LOWEST_SCALE: u16 = 2;
+pub(crate) const LOWEST_SCALE: u16 = 2;
 pub const HIGHEST_SCALE: u16 = 1024;
 const HIGHEST_SPEED: u16 = 32767;
 
@@ -72,13 +72,17 @@ pub struct Setup {
 }
 
 impl Setup {
-    /// The window W of the speed, in ms.
     pub fn window_ms(&self) -> u32 {
-        if self.fast_response {
-            120
-        } else {
-            504
-        }
+        window_ms(self.fast_response)
+    }
+}
+
+/// The window W of the speed, in ms.
+pub fn window_ms(fast_response: bool) -> u32 {
+    if fast_response {
+        120
+    } else {
+        504
     }
 }
 

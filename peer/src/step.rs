@@ -9,7 +9,7 @@ pub const SAMPLE_WORDS: usize = 9;
 
 /// Bits of the LS Enable and First Cycle Input among a kind's inputs.
 const LS_ENABLE: u16 = 6;
-const FIRST_CYCLE: u16 = 7;
+pub(crate) const FIRST_CYCLE: u16 = 7;
 
 const REAL: u32 = 0x0000_ffff;
 const VIRTUAL: u32 = 0xffff_0000;
@@ -37,6 +37,11 @@ fn join(real: u16, virt: u16) -> u32 {
 
 fn bit(set: u32, number: u16) -> bool {
     set >> number & 1 != 0
+}
+
+/// How many virtual outputs differ.
+pub fn changed_count(old: u16, new: u16) -> u32 {
+    (old ^ new).count_ones()
 }
 
 /// Off beats on.
@@ -174,7 +179,7 @@ impl Module {
         let off = join(real_off, virtual_off);
         let outputs = forced(lit, on, off) & self.present();
         let virtual_outputs = (outputs >> 16) as u16;
-        let changed = (self.last_virtual ^ virtual_outputs).count_ones();
+        let changed = changed_count(self.last_virtual, virtual_outputs);
         self.last_virtual = virtual_outputs;
         StepAnswer {
             refusal,

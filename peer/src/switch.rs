@@ -14,7 +14,7 @@ pub const OUTPUTS: usize = 32;
 
 /// What a switch does within its pairs.
 #[derive(Clone, Copy, Debug, PartialEq, Eq)]
-enum Action {
+pub(crate) enum Action {
     Normal,
     Pulse { quantity: u16, on_count: u16 },
     Timed { steps: u32 },
@@ -35,7 +35,7 @@ impl Window {
 
 /// How long a timed switch's pair has held.
 #[derive(Clone, Copy, Debug, Default, PartialEq, Eq)]
-struct Timer {
+pub struct Timer {
     held: bool,
     passed: u32,
 }
@@ -43,7 +43,7 @@ struct Timer {
 impl Timer {
     /// True while the pair holds and fewer than `limit` steps have passed
     /// since it began to hold.
-    fn step(&mut self, holds: bool, limit: u32) -> bool {
+    pub fn step(&mut self, holds: bool, limit: u32) -> bool {
         if !holds || !self.held {
             self.passed = 0;
         } else if self.passed < limit {
@@ -89,9 +89,9 @@ impl Nudge {
 /// A programmed limit switch.
 #[derive(Clone, Debug, PartialEq, Eq)]
 pub struct Switch {
-    action: Action,
+    pub(crate) action: Action,
     /// As programmed; pulse and timed switches use the first only.
-    pairs: [Pair; PAIRS],
+    pub(crate) pairs: [Pair; PAIRS],
     /// ON and OFF advance in tenths of a ms.
     advances: [i16; 2],
     /// The used pairs in block order, moved by the advances at the present c.

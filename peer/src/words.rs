@@ -1,6 +1,8 @@
 //! Little-endian words from a byte input, and the programs' frame.
 
+use std::env;
 use std::io::{self, BufRead, BufWriter, ErrorKind, StdinLock, StdoutLock, Write};
+use std::process::ExitCode;
 
 /// The words of an input that are not yet read. What cannot be read ends it.
 pub struct Words<R> {
@@ -46,4 +48,24 @@ type Program = fn(StdinLock<'static>, &mut BufWriter<StdoutLock<'static>>) -> io
 pub fn filter_standard_streams(program: Program) {
     let mut output = BufWriter::new(io::stdout().lock());
     let _ = program(io::stdin().lock(), &mut output).and_then(|()| output.flush());
+}
+
+/// Status of a program that does not understand its arguments.
+pub const USAGE_STATUS: u8 = 2;
+
+/// Runs a program that its arguments alone decide. None from `make` shows
+/// the usage; what cannot be written ends the program.
+pub fn write_from_arguments(usage: &str, make: fn(&[&str]) -> Option<Vec<u8>>) -> ExitCode {
+    let arguments: Vec<String> = env::args().skip(1).collect();
+    let arguments: Vec<&str> = arguments.iter().map(String::as_str).collect();
+    match make(&arguments) {
+        Some(bytes) => {
+            let _ = io::stdout().lock().write_all(&bytes);
+            ExitCode::SUCCESS
+        }
+        None => {
+            eprintln!("usage: {usage}");
+            ExitCode::from(USAGE_STATUS)
+        }
+    }
 }

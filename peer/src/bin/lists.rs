@@ -1,0 +1,23 @@
+//! Writes the list of calls of a seed to standard output, for the replay
+//! program to read.
+
+use std::process::ExitCode;
+
+use peer::generate::{cycle_list, step_list, CallList, USUAL_STEPS};
+use peer::words;
+
+fn main() -> ExitCode {
+    words::write_from_arguments(
+        "lists cycles SEED | lists steps SEED [STEPS]",
+        |arguments| list(arguments).map(|list| list.bytes()),
+    )
+}
+
+fn list(arguments: &[&str]) -> Option<CallList> {
+    Some(match arguments {
+        ["cycles", seed] => cycle_list(seed.parse().ok()?),
+        ["steps", seed] => step_list(seed.parse().ok()?, USUAL_STEPS),
+        ["steps", seed, steps] => step_list(seed.parse().ok()?, steps.parse().ok()?),
+        _ => return None,
+    })
+}

@@ -1,0 +1,65 @@
+//! Lists of programming calls without steps.
+
+use crate::generate::call_list::CallList;
+use crate::generate::file_kind::{FileKind, FILE_KINDS};
+use crate::generate::session::Session;
+
+/// The list of a seed.
+pub fn cycle_list(seed: u64) -> CallList {
+    let mut session = Session::new(seed);
+    if session.numbers.one_in(8) {
+        calls_without_module(&mut session);
+    }
+    session.power_up();
+    session.program_all();
+    for _ in 0..session.numbers.between(2, 5) {
+        episode(&mut session);
+    }
+    session.list
+}
+
+fn calls_without_module(session: &mut Session) {
+    if session.numbers.one_in(2) {
+        session.power_up_unknown();
+    }
+    let kind = session.numbers.pick(&FILE_KINDS);
+    session.faulty_cycle(kind);
+    session.read_block();
+    session.nudges();
+}
+
+/// Setup, groups, limits and nudges, not always all of them.
+fn episode(session: &mut Session) {
+    match session.numbers.below(12) {
+        0 => session.power_up(),
+        1 => session.power_up_unknown(),
+        _ => {}
+    }
+    for kind in FILE_KINDS {
+        // In Independent Mode a group cycle is refused.
+        let barred = kind == FileKind::Group && session.program.is_independent();
+        let skipped = session.numbers.below(6);
+        if skipped > if barred { 3 } else { 1 } {
+            stage(session, kind);
+        }
+        if session.numbers.one_in(6) {
+            session.read_block();
+        }
+    }
+    for _ in 0..session.numbers.between(1, 8) {
+        session.nudges();
+    }
+}
+
+/// Faulty tries, then mostly a sound cycle.
+fn stage(session: &mut Session, kind: FileKind) {
+    for _ in 0..session.numbers.pick(&[0, 0, 1, 1, 2]) {
+        session.faulty_cycle(kind);
+    }
+    if session.numbers.one_in(20) {
+        session.clear_errors();
+    }
+    if !session.numbers.one_in(10) {
+        session.sound_cycle(kind);
+    }
+}

@@ -1,0 +1,21 @@
+//! Call lists and traces from a seed, made to show differences: they reach
+//! every answer and every state of the card. The same seed gives the same
+//! bytes on every machine.
+
+mod call_list;
+#[cfg(test)]
+mod coverage;
+mod cycle_lists;
+mod file_kind;
+mod numbers;
+mod program;
+mod samples;
+mod session;
+mod spoil;
+mod step_lists;
+mod traces;
+
+pub use call_list::CallList;
+pub use cycle_lists::cycle_list;
+pub use step_lists::{step_list, USUAL_STEPS};
+pub use traces::{damaged_trace, whole_trace, USUAL_SAMPLES};

@@ -1,0 +1,264 @@
+//! A list of calls under construction, with what it should have put in
+//! force. Cycles are sent in every manner: once, again, with the
+//! acknowledge left standing, with and without ClrErr.
+
+use crate::blocks::limit_block_at;
+use crate::cycles::{NudgeCycle, CLEAR_ERRORS, M0_WORDS, M1_WORDS, NUDGE_CLEAR_ERRORS, TRANSMIT};
+use crate::generate::call_list::CallList;
+use crate::generate::file_kind::FileKind;
+use crate::generate::numbers::Numbers;
+use crate::generate::program::{Program, NORMAL};
+use crate::group::GROUPS;
+use crate::limit_block::{block_pair, PAIRS};
+use crate::switch::OUTPUTS;
+
+pub struct Session {
+    pub numbers: Numbers,
+    pub list: CallList,
+    pub program: Program,
+    /// Kinds whose acknowledge was left standing.
+    acknowledged: [bool; 3],
+    /// An error may stand.
+    error_stands: bool,
+}
+
+impl Session {
+    /// A session without a module yet.
+    pub fn new(seed: u64) -> Session {
+        Session {
+            numbers: Numbers::new(seed),
+            list: CallList::default(),
+            program: Program::fresh(0),
+            acknowledged: [false; 3],
+            error_stands: true,
+        }
+    }
+
+    pub fn power_up(&mut self) {
+        let real_count = self.numbers.pick(&[0, 8, 16, 16]);
+        self.program = Program::fresh(real_count);
+        self.acknowledged = [false; 3];
+        self.error_stands = true;
+        self.list.power_up(self.program.module_number());
+    }
+
+    /// A number that no module has.
+    pub fn power_up_unknown(&mut self) {
+        let any = self.numbers.word() & 0x1fff;
+        let number = self.numbers.pick(&[0, 8510, 8514, 8500, 0xffff, any]);
+        self.list.power_up(number);
+    }
+
+    /// The present programming with new words for one kind.
+    fn draw_program(&mut self, kind: FileKind) -> Program {
+        let mut program = self.program.clone();
+        if kind == FileKind::Setup && self.numbers.one_in(3) {
+            program.draw_keeping_setup(&mut self.numbers);
+        } else {
+            program.draw(&mut self.numbers, kind);
+        }
+        program
+    }
+
+    /// A cycle with sound words.
+    pub fn sound_cycle(&mut self, kind: FileKind) {
+        let program = self.draw_program(kind);
+        self.sound_cycle_of(kind, program);
+    }
+
+    /// A setup cycle that keeps SF and mode, and so groups and limits.
+    pub fn keeping_setup(&mut self) {
+        let mut program = self.program.clone();
+        program.draw_keeping_setup(&mut self.numbers);
+        self.sound_cycle_of(FileKind::Setup, program);
+    }
+
+    fn sound_cycle_of(&mut self, kind: FileKind, program: Program) {
+        let clear = !self.numbers.one_in(6);
+        self.send(kind, &program, clear);
+        let barred = kind == FileKind::Group && self.program.is_independent();
+        if (clear || !self.error_stands) && !barred {
+            self.program = program;
+        }
+        self.error_stands &= !clear;
+    }
+
+    /// Setup, groups and limits, all sound; mostly accepted.
+    pub fn program_all(&mut self) {
+        if !self.numbers.one_in(10) {
+            self.clear_errors();
+        }
+        let mut program = self.program.clone();
+        program.draw(&mut self.numbers, FileKind::Setup);
+        self.sound_cycle_of(FileKind::Setup, program);
+        if !self.program.is_independent() {
+            self.sound_cycle(FileKind::Group);
+        }
+        self.sound_cycle(FileKind::Limit);
+    }
+
+    /// A cycle whose words are bad or nearly so, or of a wrong length.
+    pub fn faulty_cycle(&mut self, kind: FileKind) {
+        let mut program = self.draw_program(kind);
+        let clear = !self.numbers.one_in(4);
+        match self.numbers.below(8) {
+            0 => return self.send_wrong_length(kind, &program),
+            1..=4 => program.spoil(&mut self.numbers, kind),
+            _ => program.change_one_word(&mut self.numbers, kind),
+        }
+        self.send(kind, &program, clear);
+        self.error_stands = true;
+    }
+
+    /// The file of a program, ready to be sent. What the cycle does not read
+    /// is sometimes noise.
+    fn draw_file(&mut self, kind: FileKind, program: &Program, command: u16) -> Vec<u16> {
+        let mut file = kind.file(program).to_vec();
+        let numbers = &mut self.numbers;
+        if numbers.one_in(2) {
+            file[kind.status()].fill_with(|| numbers.word());
+        }
+        if kind == FileKind::Limit && numbers.one_in(4) {
+            let missing = limit_block_at(usize::from(program.real_count))..limit_block_at(16);
+            file[missing].fill_with(|| numbers.word());
+        }
+        if kind != FileKind::Limit && numbers.one_in(3) {
+            let data = file[kind.data()].to_vec();
+            file.fill_with(|| numbers.word());
+            file[kind.data()].copy_from_slice(&data);
+        }
+        file[kind.command()] |= command;
+        file
+    }
+
+    fn send(&mut self, kind: FileKind, program: &Program, clear_errors: bool) {
+        let standing = std::mem::take(&mut self.acknowledged[kind as usize]);
+        if standing && !self.numbers.one_in(4) {
+            self.clear_transmit(kind, program);
+        }
+        let command = TRANSMIT | if clear_errors { CLEAR_ERRORS } else { 0 };
+        let file = self.draw_file(kind, program, command);
+        self.list.file(kind.opcode(), &file);
+        while self.numbers.one_in(10) {
+            self.list.file(kind.opcode(), &file);
+        }
+        if self.numbers.one_in(12) {
+            self.acknowledged[kind as usize] = true;
+        } else {
+            self.clear_transmit(kind, program);
+        }
+    }
+
+    /// The same file with transmit clear; ClrErr then does nothing.
+    fn clear_transmit(&mut self, kind: FileKind, program: &Program) {
+        let command = self.numbers.pick(&[0, 0, CLEAR_ERRORS]);
+        let file = self.draw_file(kind, program, command);
+        self.list.file(kind.opcode(), &file);
+    }
+
+    fn send_wrong_length(&mut self, kind: FileKind, program: &Program) {
+        let command = self.numbers.pick(&[TRANSMIT | CLEAR_ERRORS, TRANSMIT, 0]);
+        let mut file = self.draw_file(kind, program, command);
+        file.resize(self.draw_wrong_length(file.len()), 0);
+        self.list.file(kind.opcode(), &file);
+    }
+
+    fn draw_wrong_length(&mut self, right: usize) -> usize {
+        let other = M0_WORDS + M1_WORDS - right;
+        if self.numbers.one_in(60) {
+            return 65535;
+        }
+        self.numbers
+            .pick(&[right - 1, right - 1, right + 1, right + 1, 0, 1, other])
+    }
+
+    /// A nudge with bit 14, its other bits anything.
+    pub fn clear_errors(&mut self) {
+        let word = NUDGE_CLEAR_ERRORS | self.numbers.word();
+        self.nudge(word);
+        self.error_stands = false;
+    }
+
+    /// Sends a nudge word with transmit set, then mostly with it clear.
+    fn nudge(&mut self, word: u16) {
+        self.list.nudge(TRANSMIT | word);
+        while self.numbers.one_in(12) {
+            self.list.nudge(TRANSMIT | word);
+        }
+        if !self.numbers.one_in(15) {
+            let any = self.numbers.word();
+            self.list.nudge(any & !TRANSMIT);
+        }
+    }
+
+    /// One count or a few on one setpoint, up to the end of its range.
+    pub fn nudges(&mut self) {
+        if !self.numbers.one_in(5) {
+            self.clear_errors();
+        }
+        let word = self.draw_nudge();
+        for _ in 0..self.numbers.pick(&[1, 1, 2, 4]) {
+            self.nudge(word);
+            if self.numbers.one_in(4) {
+                self.clear_errors();
+            }
+        }
+        self.error_stands = true;
+    }
+
+    fn draw_nudge(&mut self) -> u16 {
+        let programmed = self.program.programmed();
+        let numbers = &mut self.numbers;
+        let output = match self.program.draw_output(numbers, programmed) {
+            Some(output) if !numbers.one_in(8) => output,
+            _ => numbers.below(OUTPUTS as u32) as usize,
+        };
+        let block = self.program.limit_block(output);
+        let used = (0..PAIRS).find(|&pair| !block_pair(&block, pair).is_unused());
+        let pair = match used {
+            _ if numbers.one_in(6) => numbers.below(PAIRS as u32) as usize,
+            Some(pair) if block[0] & 3 == NORMAL => pair,
+            _ => 0,
+        };
+        let both = NudgeCycle::ON | NudgeCycle::OFF;
+        let setpoints = match numbers.below(16) {
+            0 => 0,
+            1..=6 => NudgeCycle::ON,
+            7..=12 => NudgeCycle::OFF,
+            _ => both,
+        };
+        let down = numbers.pick(&[0, NudgeCycle::DOWN]);
+        let reserved = match numbers.below(20) {
+            0 => 1 << numbers.between(11, 13),
+            _ => 0,
+        };
+        reserved | down | setpoints | (pair as u16) << 5 | output as u16
+    }
+
+    /// A block reader call: any block of any files, mostly readable ones.
+    pub fn read_block(&mut self) {
+        let numbers = &mut self.numbers;
+        let (which, last) = numbers.pick(&[(0, GROUPS as u16), (1, OUTPUTS as u16)]);
+        let number = match numbers.below(6) {
+            0 => numbers.pick(&[0, last + 1, 33, 0x8001, 0xffff]),
+            1 => numbers.pick(&[1, last]),
+            _ => numbers.between(1, last),
+        };
+        let which = if which == 1 {
+            numbers.pick(&[1, 2, 0xffff])
+        } else {
+            0
+        };
+        let [m0, m1] = [M0_WORDS, M1_WORDS].map(|right| {
+            let length = if self.numbers.one_in(6) {
+                self.draw_wrong_length(right)
+            } else {
+                right
+            };
+            (0..length)
+                .map(|_| self.numbers.word())
+                .collect::<Vec<u16>>()
+        });
+        self.list.block(which, number, &m0, &m1);
+    }
+}

@@ -1,0 +1,143 @@
+//! What the lists of cycles reach: every answer, every status bit.
+
+use std::collections::BTreeMap;
+
+use peer::generate::cycle_list;
+use peer::replay;
+
+const LISTS: usize = 2000;
+
+/// How often something was seen.
+#[derive(Default)]
+struct Counts(BTreeMap<String, usize>);
+
+impl Counts {
+    fn add(&mut self, name: String) {
+        *self.0.entry(name).or_default() += 1;
+    }
+
+    fn of(&self, name: &str) -> usize {
+        self.0.get(name).copied().unwrap_or(0)
+    }
+
+    fn assert_all_seen(&self, names: impl IntoIterator<Item = String>) {
+        for name in names {
+            assert!(self.of(&name) > 0, "never seen: {name}");
+        }
+    }
+
+    fn print(&self) {
+        let total: usize = self.0.values().sum();
+        for (name, count) in &self.0 {
+            let percent = 100.0 * *count as f64 / total as f64;
+            println!("{count:8} {percent:6.2} % {name}");
+        }
+    }
+}
+
+fn answers(seed: u64) -> String {
+    let mut output = Vec::new();
+    replay::run(&cycle_list(seed).bytes()[..], &mut output).expect("writing to memory");
+    String::from_utf8(output).expect("text")
+}
+
+/// Call and answer: the first two fields, with the length of a block.
+fn answer_of(fields: &[&str]) -> String {
+    match fields {
+        ["block", "0", words @ ..] => format!("block 0 of {} words", words.len()),
+        [call, answer, ..] => format!("{call} {answer}"),
+        _ => fields.join(" "),
+    }
+}
+
+/// First status word of a cycle refused 5 to 8, and the block it names.
+fn status_of(fields: &[&str]) -> Vec<String> {
+    let [call, "5" | "6" | "7" | "8", _, _, _, _, status, number, ..] = fields else {
+        return vec![];
+    };
+    let mut names = vec![format!("{call} {status}")];
+    if *call != "setup" {
+        names.push(format!("{call} at {number}"));
+    }
+    names
+}
+
+/// Each bit alone and each two together, as the call's name and a word.
+fn bits_and_pairs<'a>(call: &'a str, bits: &'a [u16]) -> impl Iterator<Item = String> + 'a {
+    let pairs = move |&first: &'a u16| bits.iter().map(move |second| first | second);
+    bits.iter()
+        .flat_map(pairs)
+        .map(move |word| format!("{call} {word:04x}"))
+}
+
+fn names<'a>(call: &'a str, answers: &'a str) -> impl Iterator<Item = String> + 'a {
+    answers
+        .split(' ')
+        .map(move |answer| format!("{call} {answer}"))
+}
+
+#[test]
+fn lists_of_cycles_reach_every_answer() {
+    let (mut calls, mut words, mut lists) =
+        (Counts::default(), Counts::default(), Counts::default());
+    for seed in 0..LISTS as u64 {
+        let text = answers(seed);
+        let mut accepted = vec![];
+        for line in text.lines() {
+            let fields: Vec<&str> = line.split(' ').collect();
+            calls.add(answer_of(&fields));
+            status_of(&fields)
+                .into_iter()
+                .for_each(|name| words.add(name));
+            if fields.get(1) == Some(&"0") && !accepted.contains(&fields[0]) {
+                accepted.push(fields[0]);
+            }
+        }
+        accepted.iter().for_each(|call| lists.add(call.to_string()));
+    }
+    calls.print();
+    words.print();
+    println!("lists with accepted: {:?}", lists.0);
+
+    calls.assert_all_seen(names("setup", "idle 0 1 5 6"));
+    calls.assert_all_seen(names("group", "idle 0 1 5 7"));
+    calls.assert_all_seen(names("limit", "idle 0 2 5 8"));
+    calls.assert_all_seen(names("nudge", "idle 0 5 9 10"));
+    calls.assert_all_seen(names("power", "0 3"));
+    calls.assert_all_seen(["none".to_string()]);
+    calls.assert_all_seen(["block 0 of 4 words", "block 0 of 19 words"].map(String::from));
+    calls.assert_all_seen(names("block", "1 2 4"));
+    assert_eq!(calls.of("bad"), 0);
+    assert_status_words(&words);
+    for call in ["setup", "group", "limit", "nudge"] {
+        assert!(lists.of(call) > LISTS * 8 / 10, "{call} seldom accepted");
+    }
+}
+
+/// Bit 5 of word 630 cannot be set.
+fn assert_status_words(words: &Counts) {
+    let setup_bits = [1, 2, 4, 8, 0x10, 0x20, 0x8000];
+    words.assert_all_seen(bits_and_pairs("setup", &setup_bits));
+    words.assert_all_seen(bits_and_pairs("group", &[1, 2, 4]));
+    words.assert_all_seen(bits_and_pairs("limit", &[2, 4, 8, 0x10]));
+    words.assert_all_seen(names("limit", "0001 8000 4000"));
+    words.assert_all_seen(names("group", "8000 4000"));
+    words.assert_all_seen(names("setup", "4000"));
+    words.assert_all_seen((1..=6).map(|group| format!("group at {group:04x}")));
+    words.assert_all_seen((1..=32).map(|output| format!("limit at {output:04x}")));
+}
+
+#[test]
+fn a_seed_gives_one_list_and_another_seed_another() {
+    assert_eq!(cycle_list(7), cycle_list(7));
+    assert_ne!(cycle_list(7).bytes(), cycle_list(8).bytes());
+}
+
+#[test]
+fn every_call_is_answered() {
+    for seed in 0..100 {
+        let list = cycle_list(seed);
+        assert_eq!(list.steps(), 0);
+        assert_eq!(answers(seed).lines().count(), list.calls());
+    }
+}

@@ -1,0 +1,228 @@
+// Reads a list of calls from standard input and prints the whole answer of each: docs/REPLAY.md.
+mod answer;
+mod input;
+
+use crate::answer::cycle_line;
+use crate::answer::file_line;
+use crate::answer::put_outcome;
+use crate::answer::put_words;
+use crate::input::Input;
+use crate::input::kept;
+use crate::input::read_file;
+use crate::input::read_word;
+use crate::input::sample_of;
+use rules::Cycle;
+use rules::Module;
+use rules::Outcome;
+use rules::Programmed;
+use rules::Sample;
+use text::put_decimal;
+use text::put_text;
+use text::show;
+ghost use mathlib.Core.Path.{_≡_};
+ghost use Prim.Native.Nat.{_<_, _≤_};
+
+// The module, where one was powered up, and whether the list goes on.
+struct Replay {
+    card: Module,
+    powered: bool,
+    more: bool,
+}
+
+fn ended(r: Replay) -> Replay {
+    let mut n = r;
+    n.more = false;
+    n
+}
+
+// The list is cut short or has an unknown opcode.
+fn bad(r: Replay) -> Replay {
+    io::write_all(1, b"bad\n");
+    ended(r)
+}
+
+// There is no module yet.
+fn none(r: Replay) -> Replay {
+    io::write_all(1, b"none\n");
+    r
+}
+
+// The module of before stays where a power-up is refused.
+fn powered(r: Replay, p: Programmed) -> Replay {
+    let o = p.outcome;
+    match o {
+        Outcome::Accepted => {
+            let card = p.card;
+            Replay {
+                card: card,
+                powered: true,
+                more: true,
+            }
+        }
+        Outcome::Idle => r,
+        Outcome::Refused(_) => r,
+    }
+}
+
+fn power_call(r: Replay) -> Replay {
+    let number = read_word();
+    let Input::Word(n) = number else {
+        return bad(r);
+    };
+    let p = Module::power_up(n);
+    let o = p.outcome;
+    show(put_outcome(put_text(text::empty(), b"power "), o));
+    powered(r, p)
+}
+
+// A cycle that takes a file.
+fn acted(kind: Cycle, m: Module, file: &mut [u16]) -> Programmed {
+    match kind {
+        Cycle::SetupCycle => cycles::setup::setup_cycle(m, file),
+        Cycle::GroupCycle => cycles::groups::group_cycle(m, file),
+        Cycle::LimitCycle => cycles::limits::limit_cycle(m, file),
+        Cycle::NudgeCycle => cycles::nudge::nudge_cycle(m, 0),
+    }
+}
+
+// The cycle on a file, and its line.
+fn answered(kind: Cycle, m: Module, file: &mut [u16]) -> Module {
+    let p = acted(kind, m, file);
+    show(file_line(kind, p, &file[..]));
+    p.card
+}
+
+fn file_call(r: Replay, kind: Cycle) -> Replay {
+    let mut file = [0u16; 651];
+    let length = read_file(&mut file);
+    let Input::Word(n) = length else {
+        return bad(r);
+    };
+    if !r.powered {
+        return none(r);
+    }
+    let end = kept(n, file);
+    let card = r.card;
+    let after = answered(kind, card, &mut file[..end]);
+    let mut next = r;
+    next.card = after;
+    next
+}
+
+fn nudge_call(r: Replay) -> Replay {
+    let read = read_word();
+    let Input::Word(w) = read else {
+        return bad(r);
+    };
+    if !r.powered {
+        return none(r);
+    }
+    let card = r.card;
+    let p = cycles::nudge::nudge_cycle(card, w);
+    show(cycle_line(Cycle::NudgeCycle, p));
+    let after = p.card;
+    let mut next = r;
+    next.card = after;
+    next
+}
+
+// The step of a sample, and its line.
+fn stepped(r: Replay, _s: Sample) -> Replay {
+    r
+}
+
+fn step_call(r: Replay) -> Replay {
+    let mut b = [0u8; 18];
+    let got = io::read_full(0, &mut b);
+    if got < 18 {
+        return bad(r);
+    }
+    if !r.powered {
+        return none(r);
+    }
+    stepped(r, sample_of(b))
+}
+
+// The block reader's line.
+fn block_line<'a>(m0: &'a [u16], m1: &'a [u16], group: bool, n: u16) {
+    let mut why: u16 = 0;
+    let part = cycles::reader::read_block(m0, m1, group, n, &mut why);
+    let l = put_decimal(put_text(text::empty(), b"block "), why as u32);
+    show(put_words(l, part, 0, part.len()));
+}
+
+// Both files, and the block of one of them.
+fn block_of(r: Replay, group: bool, n: u16) -> Replay {
+    let mut m0 = [0u16; 651];
+    let mut m1 = [0u16; 651];
+    let length0 = read_file(&mut m0);
+    let Input::Word(n0) = length0 else {
+        return bad(r);
+    };
+    let length1 = read_file(&mut m1);
+    let Input::Word(n1) = length1 else {
+        return bad(r);
+    };
+    let end0 = kept(n0, m0);
+    let end1 = kept(n1, m1);
+    block_line(&m0[..end0], &m1[..end1], group, n);
+    r
+}
+
+fn block_call(r: Replay) -> Replay {
+    let read = read_word();
+    let Input::Word(which) = read else {
+        return bad(r);
+    };
+    let number = read_word();
+    let Input::Word(n) = number else {
+        return bad(r);
+    };
+    block_of(r, which == 0, n)
+}
+
+fn call(r: Replay, opcode: u16) -> Replay {
+    match opcode {
+        0 => power_call(r),
+        1 => file_call(r, Cycle::SetupCycle),
+        2 => file_call(r, Cycle::GroupCycle),
+        3 => file_call(r, Cycle::LimitCycle),
+        4 => nudge_call(r),
+        5 => step_call(r),
+        6 => block_call(r),
+        _ => bad(r),
+    }
+}
+
+// One call of the list.
+fn one(r: Replay) -> Replay {
+    let opcode = read_word();
+    match opcode {
+        Input::Nothing => ended(r),
+        Input::Cut => bad(r),
+        Input::Word(n) => call(r, n),
+    }
+}
+
+// The calls of the list, to its end.
+fn run(r: Replay) {
+    let mut n = r;
+    let mut turns: u64 = 18446744073709551615;
+    while 0 < turns {
+        n = one(n);
+        if !n.more {
+            return;
+        }
+        turns = turns - 1;
+    }
+}
+
+fn main() {
+    let p = Module::power_up(8511);
+    let card = p.card;
+    run(Replay {
+        card: card,
+        powered: false,
+        more: true,
+    });
+}

@@ -46,6 +46,9 @@ fn episode(session: &mut Session) {
             session.read_block();
         }
     }
+    if session.program.programmed() == 0 && !session.numbers.one_in(4) {
+        session.sound_cycle(FileKind::Limit);
+    }
     for _ in 0..session.numbers.between(1, 8) {
         session.nudges();
     }

@@ -76,8 +76,10 @@ fn episode(session: &mut Session) {
     }
 }
 
-/// Faulty tries, then mostly a sound cycle.
+/// Faulty tries, then mostly a sound cycle. A nudge drawn before shows
+/// whether the limit programs are still there.
 fn stage(session: &mut Session, kind: FileKind) {
+    let nudge = session.draw_nudge();
     for _ in 0..session.numbers.pick(&[0, 0, 1, 1, 2]) {
         session.faulty_cycle(kind);
     }
@@ -86,5 +88,9 @@ fn stage(session: &mut Session, kind: FileKind) {
     }
     if !session.numbers.one_in(10) {
         session.sound_cycle(kind);
+    }
+    if session.numbers.one_in(4) {
+        session.clear_errors();
+        session.nudge(nudge);
     }
 }

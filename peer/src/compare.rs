@@ -62,7 +62,7 @@ impl InputKind {
 
 struct Input {
     bytes: Arc<[u8]>,
-    /// Lines that must come out: one for each call of a list.
+    /// Lines that must come out of a list.
     lines: Option<usize>,
 }
 
@@ -70,7 +70,7 @@ impl Input {
     fn of_list(list: &CallList) -> Input {
         Input {
             bytes: list.bytes().into(),
-            lines: Some(list.calls()),
+            lines: Some(list.lines()),
         }
     }
 
@@ -191,7 +191,7 @@ impl Programs<'_> {
             [Ok(first), Ok(second)] => first_difference(first, second).or_else(|| {
                 let count = lines(first).count();
                 let expected = expected_lines.filter(|&expected| expected != count)?;
-                Some(format!("{count} lines for {expected} calls"))
+                Some(format!("{count} lines instead of {expected}"))
             }),
             _ => Some(failures.join("; ")),
         }

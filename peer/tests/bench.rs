@@ -5,7 +5,7 @@ mod common;
 
 use std::collections::BTreeSet;
 
-use common::{group_file, limit_file};
+use common::{group_file, limit_file, run_with_arguments};
 use peer::generate::CallList;
 use peer::replay;
 
@@ -18,9 +18,9 @@ struct Programming {
 
 fn full() -> Programming {
     let limit = |n: u16| {
-        let sign = if n % 2 == 0 { 1 } else { -1 };
+        let sign = if n & 1 == 0 { 1 } else { -1 };
         let advance = |tenths: u16| (sign * (tenths + n) as i16) as u16;
-        let mut block = vec![n % 3 << 13, advance(10), advance(5)];
+        let mut block = vec![8192 * (n % 3), advance(10), advance(5)];
         for k in 0..8 {
             let on = (31 * n + 125 * k + 3 * k * (n % 4)) % 1000;
             block.extend([on, (on + 40 + n) % 1000]);
@@ -104,10 +104,7 @@ fn checksum(steps: &[Vec<String>]) -> u64 {
 }
 
 fn bench(case: &str, steps: u64) -> String {
-    let output = std::process::Command::new(env!("CARGO_BIN_EXE_bench"))
-        .args([case, &steps.to_string()])
-        .output()
-        .expect("program runs");
+    let output = run_with_arguments(env!("CARGO_BIN_EXE_bench"), &[case, &steps.to_string()]);
     assert!(output.status.success());
     String::from_utf8(output.stdout).expect("text")
 }
@@ -150,10 +147,7 @@ fn outputs_of_the_full_card_all_light() {
 #[test]
 fn wrong_arguments_show_the_usage() {
     for arguments in [&["c", "1"][..], &["a"], &["a", "-1"], &["a", "4294967296"]] {
-        let output = std::process::Command::new(env!("CARGO_BIN_EXE_bench"))
-            .args(arguments)
-            .output()
-            .expect("program runs");
+        let output = run_with_arguments(env!("CARGO_BIN_EXE_bench"), arguments);
         assert_eq!(output.status.code(), Some(2));
     }
 }

@@ -118,7 +118,7 @@ fn agreement_on_nothing_is_reported() {
     let silent = program("silent");
     let output = compare(&["cycles", "1", "1", &silent, &silent]);
     assert_eq!(output.status.code(), Some(1));
-    assert!(text(&output).contains("cycles seed 1: 0 lines for "));
+    assert!(text(&output).contains("cycles seed 1: 0 lines instead of "));
 }
 
 #[test]

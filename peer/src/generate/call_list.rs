@@ -7,6 +7,8 @@ pub struct CallList {
     words: Vec<u16>,
     calls: usize,
     steps: usize,
+    /// An unknown opcode or a call cut short, after the last whole call.
+    tail: Vec<u8>,
 }
 
 impl CallList {
@@ -47,16 +49,24 @@ impl CallList {
         self.words.extend(file);
     }
 
-    pub fn calls(&self) -> usize {
-        self.calls
-    }
-
     pub fn steps(&self) -> usize {
         self.steps
     }
 
+    /// Ends the list with what is no whole call.
+    pub fn break_off(&mut self, tail: Vec<u8>) {
+        self.tail = tail;
+    }
+
+    /// Lines of the answers: one for each call, and `bad` for a tail.
+    pub fn lines(&self) -> usize {
+        self.calls + usize::from(!self.tail.is_empty())
+    }
+
     pub fn bytes(&self) -> Vec<u8> {
-        little_endian(&self.words)
+        let mut bytes = little_endian(&self.words);
+        bytes.extend(&self.tail);
+        bytes
     }
 }
 
@@ -81,7 +91,10 @@ mod tests {
             0, 8511, 2, 2, 7, 8, 4, 0x1234, 5, 1, 2, 3, 4, 5, 6, 7, 8, 9, 6, 1, 32, 1, 5, 0,
         ];
         assert_eq!(list.words, words);
-        assert_eq!((list.calls(), list.steps()), (5, 1));
+        assert_eq!((list.lines(), list.steps()), (5, 1));
         assert_eq!(list.bytes()[..6], [0, 0, 0x3f, 0x21, 2, 0]);
+        list.break_off(vec![9]);
+        assert_eq!(list.bytes().len(), 2 * words.len() + 1);
+        assert_eq!(list.lines(), 6);
     }
 }

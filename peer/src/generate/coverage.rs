@@ -66,12 +66,13 @@ impl Seen {
                     self.cycle(cycle.name, answer);
                 }
                 (call, module) => {
+                    if matches!(call, Call::PowerUp(_)) {
+                        self.steps = 0;
+                    }
                     make_call(call, module, &mut io::sink()).expect("nothing is written");
-                    self.steps = 0;
                 }
             }
         }
-        assert!(words.is_empty());
     }
 
     fn cycle(&mut self, name: &str, answer: Answer) {
@@ -213,6 +214,28 @@ fn all_of(lists: &[&[&str]]) -> Vec<String> {
     })
 }
 
+/// What is seen beside modes, types and scale factors.
+const STEP_EVENTS: [&str; 18] = [
+    "11",
+    "11 with changes",
+    "changed count",
+    "TachOv",
+    "both detectors",
+    "rpm over 16 bits",
+    "forward",
+    "backward",
+    "stop",
+    "First Cycle edge in a stop",
+    "First Cycle edge after a stop",
+    "opened by First Cycle",
+    "edge as a dwell begins",
+    "preset into the dwell",
+    "preset out of the dwell",
+    "setup Refused(SetupData) after steps",
+    "group Refused(GroupData) after steps",
+    "limit Refused(LimitData) after steps",
+];
+
 #[test]
 fn lists_of_steps_reach_every_state() {
     let mut seen = Seen::default();
@@ -245,29 +268,7 @@ fn lists_of_steps_reach_every_state() {
         &["setup", "group", "limit"],
         &["Accepted after steps", "Refused(ErrorStands) after steps"],
     ]));
-    seen.assert_seen(
-        [
-            "11",
-            "11 with changes",
-            "changed count",
-            "TachOv",
-            "both detectors",
-            "rpm over 16 bits",
-            "forward",
-            "backward",
-            "stop",
-            "First Cycle edge in a stop",
-            "First Cycle edge after a stop",
-            "opened by First Cycle",
-            "edge as a dwell begins",
-            "preset into the dwell",
-            "preset out of the dwell",
-            "setup Refused(SetupData) after steps",
-            "group Refused(GroupData) after steps",
-            "limit Refused(LimitData) after steps",
-        ]
-        .map(String::from),
-    );
+    seen.assert_seen(STEP_EVENTS.map(String::from));
 }
 
 #[test]

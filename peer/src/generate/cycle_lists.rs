@@ -1,7 +1,8 @@
 //! Lists of programming calls without steps.
 
-use crate::generate::call_list::CallList;
+use crate::generate::call_list::{little_endian, CallList};
 use crate::generate::file_kind::{FileKind, FILE_KINDS};
+use crate::generate::numbers::Numbers;
 use crate::generate::session::Session;
 
 /// The list of a seed.
@@ -15,7 +16,28 @@ pub fn cycle_list(seed: u64) -> CallList {
     for _ in 0..session.numbers.between(2, 5) {
         episode(&mut session);
     }
+    if session.numbers.one_in(20) {
+        let tail = draw_tail(&mut session.numbers);
+        session.list.break_off(tail);
+    }
     session.list
+}
+
+/// An unknown opcode, or some call cut anywhere.
+fn draw_tail(numbers: &mut Numbers) -> Vec<u8> {
+    let mut call = CallList::default();
+    let words = [0; 9].map(|_| numbers.word());
+    match numbers.below(8) {
+        0 => call.power_up(words[0]),
+        1 => call.nudge(words[0]),
+        2 => call.step(&words),
+        3 => call.block(words[0], words[1], &words[2..5], &words[5..]),
+        opcode @ 4..=6 => call.file(opcode as u16 - 3, &words),
+        _ => return little_endian(&[numbers.between(7, 65535), words[0]]),
+    }
+    let mut bytes = call.bytes();
+    bytes.truncate(1 + numbers.below(bytes.len() as u32 - 1) as usize);
+    bytes
 }
 
 fn calls_without_module(session: &mut Session) {
@@ -46,13 +68,18 @@ fn episode(session: &mut Session) {
             session.read_block();
         }
     }
+    if session.program.programmed() == 0 && !session.numbers.one_in(4) {
+        session.sound_cycle(FileKind::Limit);
+    }
     for _ in 0..session.numbers.between(1, 8) {
         session.nudges();
     }
 }
 
-/// Faulty tries, then mostly a sound cycle.
+/// Faulty tries, then mostly a sound cycle. A nudge drawn before shows
+/// whether the limit programs are still there.
 fn stage(session: &mut Session, kind: FileKind) {
+    let nudge = session.draw_nudge();
     for _ in 0..session.numbers.pick(&[0, 0, 1, 1, 2]) {
         session.faulty_cycle(kind);
     }
@@ -61,5 +88,9 @@ fn stage(session: &mut Session, kind: FileKind) {
     }
     if !session.numbers.one_in(10) {
         session.sound_cycle(kind);
+    }
+    if session.numbers.one_in(4) {
+        session.clear_errors();
+        session.nudge(nudge);
     }
 }

@@ -128,6 +128,11 @@ impl Program {
         self.draw_setup(numbers, self.scale(), self.is_independent());
     }
 
+    /// Draws setup words with the SF that is in force and the other mode.
+    pub fn draw_other_mode(&mut self, numbers: &mut Numbers) {
+        self.draw_setup(numbers, self.scale(), !self.is_independent());
+    }
+
     /// Another SF or mode drops groups and limits.
     fn draw_setup(&mut self, numbers: &mut Numbers, scale: u16, independent: bool) {
         if scale != self.scale() || independent != self.is_independent() {

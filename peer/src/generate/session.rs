@@ -52,10 +52,11 @@ impl Session {
     /// The present programming with new words for one kind.
     fn draw_program(&mut self, kind: FileKind) -> Program {
         let mut program = self.program.clone();
-        if kind == FileKind::Setup && self.numbers.one_in(3) {
-            program.draw_keeping_setup(&mut self.numbers);
-        } else {
-            program.draw(&mut self.numbers, kind);
+        let numbers = &mut self.numbers;
+        match (kind, numbers.below(6)) {
+            (FileKind::Setup, 0 | 1) => program.draw_keeping_setup(numbers),
+            (FileKind::Setup, 2) => program.draw_other_mode(numbers),
+            _ => program.draw(numbers, kind),
         }
         program
     }
@@ -180,7 +181,7 @@ impl Session {
     }
 
     /// Sends a nudge word with transmit set, then mostly with it clear.
-    fn nudge(&mut self, word: u16) {
+    pub fn nudge(&mut self, word: u16) {
         self.list.nudge(TRANSMIT | word);
         while self.numbers.one_in(12) {
             self.list.nudge(TRANSMIT | word);
@@ -206,7 +207,8 @@ impl Session {
         self.error_stands = true;
     }
 
-    fn draw_nudge(&mut self) -> u16 {
+    /// A nudge word, mostly for a setpoint that is programmed.
+    pub fn draw_nudge(&mut self) -> u16 {
         let programmed = self.program.programmed();
         let numbers = &mut self.numbers;
         let output = match self.program.draw_output(numbers, programmed) {

@@ -385,10 +385,21 @@ fn spoil_duration(numbers: &mut Numbers, block: &mut [u16; LIMIT_BLOCK_WORDS], e
         block[5] = numbers.pick(&[0, 10000, 10001, 32768, 65535]);
         return;
     }
-    let (word, value) =
-        numbers.pick(&[(5, 0), (6, 0), (5, 1024), (6, 1024), (5, 65535), (6, 65535)]);
-    block[word] = value;
-    if errors & SETPOINT_ERROR != 0 {
-        block[word] = 0;
-    }
+    let [quantity, on_count] = [block[5], block[6]];
+    let zero = [[0, on_count], [quantity, 0]];
+    let large = [
+        [1024, on_count],
+        [quantity, 1024],
+        [quantity, 65535],
+        // Q × K + Q is 65536.
+        [2, 32767],
+        [256, 255],
+        [32768, 1],
+    ];
+    let pulses = if errors & SETPOINT_ERROR != 0 || numbers.one_in(3) {
+        numbers.pick(&zero)
+    } else {
+        numbers.pick(&large)
+    };
+    block[5..7].copy_from_slice(&pulses);
 }

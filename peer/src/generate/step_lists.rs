@@ -100,6 +100,12 @@ impl Run {
                 self.program_all();
             }
             17 => self.stop_and_go(),
+            18 => {
+                self.session.sound_cycle(FileKind::Setup);
+                self.samples.module_start();
+                self.segment();
+                self.program_all();
+            }
             _ => {}
         }
     }
@@ -120,6 +126,10 @@ impl Run {
 
     /// A raw position over 1023, some steps in fault, then ClrErr.
     fn fault(&mut self) {
+        // Another offset, before a step has answered with it.
+        if self.session.numbers.one_in(3) {
+            self.session.keeping_setup();
+        }
         for _ in 0..self.session.numbers.between(1, 3) {
             let raw = self
                 .session

@@ -3,7 +3,8 @@
 #![allow(dead_code)]
 
 use std::io::Write;
-use std::process::{Command, Stdio};
+use std::process::{Command, Output, Stdio};
+use std::thread;
 
 use peer::{Answer, Module, Refusal, StepAnswer, M0_WORDS, M1_WORDS};
 
@@ -228,6 +229,14 @@ pub fn refused(refusal: Refusal) -> Answer {
     Answer::Refused(refusal)
 }
 
+/// What a program makes of its arguments.
+pub fn run_with_arguments(path: &str, arguments: &[&str]) -> Output {
+    Command::new(path)
+        .args(arguments)
+        .output()
+        .expect("program runs")
+}
+
 /// What a program prints for an input; it must end with status 0.
 pub fn run_program(path: &str, input: &[u8]) -> String {
     let mut child = Command::new(path)
@@ -235,11 +244,12 @@ pub fn run_program(path: &str, input: &[u8]) -> String {
         .stdout(Stdio::piped())
         .spawn()
         .expect("program starts");
-    // Dropping the pipe ends the input.
     let mut stdin = child.stdin.take().expect("piped");
-    stdin.write_all(input).expect("program reads");
-    drop(stdin);
-    let output = child.wait_with_output().expect("program ends");
+    // Written beside the reading, so that neither waits for the other.
+    let output = thread::scope(|scope| {
+        scope.spawn(move || stdin.write_all(input).expect("program reads"));
+        child.wait_with_output().expect("program ends")
+    });
     assert!(output.status.success());
     String::from_utf8(output.stdout).expect("text")
 }

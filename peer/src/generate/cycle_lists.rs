@@ -2,25 +2,25 @@
 
 use crate::generate::call_list::{little_endian, CallList};
 use crate::generate::file_kind::{FileKind, FILE_KINDS};
+use crate::generate::ladder::Ladder;
 use crate::generate::numbers::Numbers;
-use crate::generate::session::Session;
 
 /// The list of a seed.
 pub fn cycle_list(seed: u64) -> CallList {
-    let mut session = Session::new(seed);
-    if session.numbers.one_in(8) {
-        calls_without_module(&mut session);
+    let mut ladder = Ladder::new(seed);
+    if ladder.numbers.one_in(8) {
+        calls_without_module(&mut ladder);
     }
-    session.power_up();
-    session.program_all();
-    for _ in 0..session.numbers.between(2, 5) {
-        episode(&mut session);
+    ladder.power_up();
+    ladder.program_all();
+    for _ in 0..ladder.numbers.between(2, 5) {
+        episode(&mut ladder);
     }
-    if session.numbers.one_in(20) {
-        let tail = draw_tail(&mut session.numbers);
-        session.list.break_off(tail);
+    if ladder.numbers.one_in(20) {
+        let tail = draw_tail(&mut ladder.numbers);
+        ladder.list.break_off(tail);
     }
-    session.list
+    ladder.list
 }
 
 /// An unknown opcode, or some call cut anywhere.
@@ -40,57 +40,57 @@ fn draw_tail(numbers: &mut Numbers) -> Vec<u8> {
     bytes
 }
 
-fn calls_without_module(session: &mut Session) {
-    if session.numbers.one_in(2) {
-        session.power_up_unknown();
+fn calls_without_module(ladder: &mut Ladder) {
+    if ladder.numbers.one_in(2) {
+        ladder.power_up_unknown();
     }
-    let kind = session.numbers.pick(&FILE_KINDS);
-    session.faulty_cycle(kind);
-    session.read_block();
-    session.nudges();
+    let kind = ladder.numbers.pick(&FILE_KINDS);
+    ladder.faulty_cycle(kind);
+    ladder.read_block();
+    ladder.nudges();
 }
 
 /// Setup, groups, limits and nudges, not always all of them.
-fn episode(session: &mut Session) {
-    match session.numbers.below(12) {
-        0 => session.power_up(),
-        1 => session.power_up_unknown(),
+fn episode(ladder: &mut Ladder) {
+    match ladder.numbers.below(12) {
+        0 => ladder.power_up(),
+        1 => ladder.power_up_unknown(),
         _ => {}
     }
     for kind in FILE_KINDS {
         // In Independent Mode a group cycle is refused.
-        let barred = kind == FileKind::Group && session.program.is_independent();
-        let skipped = session.numbers.below(6);
+        let barred = kind == FileKind::Group && ladder.program.is_independent();
+        let skipped = ladder.numbers.below(6);
         if skipped > if barred { 3 } else { 1 } {
-            stage(session, kind);
+            stage(ladder, kind);
         }
-        if session.numbers.one_in(6) {
-            session.read_block();
+        if ladder.numbers.one_in(6) {
+            ladder.read_block();
         }
     }
-    if session.program.programmed() == 0 && !session.numbers.one_in(4) {
-        session.sound_cycle(FileKind::Limit);
+    if ladder.program.programmed() == 0 && !ladder.numbers.one_in(4) {
+        ladder.sound_cycle(FileKind::Limit);
     }
-    for _ in 0..session.numbers.between(1, 8) {
-        session.nudges();
+    for _ in 0..ladder.numbers.between(1, 8) {
+        ladder.nudges();
     }
 }
 
 /// Faulty tries, then mostly a sound cycle. A nudge drawn before shows
 /// whether the limit programs are still there.
-fn stage(session: &mut Session, kind: FileKind) {
-    let nudge = session.draw_nudge();
-    for _ in 0..session.numbers.pick(&[0, 0, 1, 1, 2]) {
-        session.faulty_cycle(kind);
+fn stage(ladder: &mut Ladder, kind: FileKind) {
+    let nudge = ladder.draw_nudge();
+    for _ in 0..ladder.numbers.pick(&[0, 0, 1, 1, 2]) {
+        ladder.faulty_cycle(kind);
     }
-    if session.numbers.one_in(20) {
-        session.clear_errors();
+    if ladder.numbers.one_in(20) {
+        ladder.clear_errors();
     }
-    if !session.numbers.one_in(10) {
-        session.sound_cycle(kind);
+    if !ladder.numbers.one_in(10) {
+        ladder.sound_cycle(kind);
     }
-    if session.numbers.one_in(4) {
-        session.clear_errors();
-        session.nudge(nudge);
+    if ladder.numbers.one_in(4) {
+        ladder.clear_errors();
+        ladder.nudge(nudge);
     }
 }

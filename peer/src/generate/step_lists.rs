@@ -2,8 +2,8 @@
 
 use crate::generate::call_list::CallList;
 use crate::generate::file_kind::{FileKind, FILE_KINDS};
+use crate::generate::ladder::Ladder;
 use crate::generate::samples::Samples;
-use crate::generate::session::Session;
 
 /// Steps of a list where no number is given: two long windows of the speed.
 pub const USUAL_STEPS: usize = 5200;
@@ -12,48 +12,48 @@ pub const USUAL_STEPS: usize = 5200;
 pub fn step_list(seed: u64, steps: usize) -> CallList {
     let mut run = Run {
         // Other numbers than the list of cycles has for the seed.
-        session: Session::new(!seed),
+        ladder: Ladder::new(!seed),
         samples: Samples::new(),
         steps,
     };
-    run.session.power_up();
-    if run.session.numbers.one_in(6) {
+    run.ladder.power_up();
+    if run.ladder.numbers.one_in(6) {
         run.segment();
     }
     run.program_all();
     // Half of the lists have no module starts, so that updates come.
-    let restless = run.session.numbers.one_in(2);
+    let restless = run.ladder.numbers.one_in(2);
     while !run.is_over() {
         if restless {
             run.segment();
             run.interlude();
         } else {
             run.stop_and_go();
-            run.session.nudges();
+            run.ladder.nudges();
             run.segment();
         }
     }
-    run.session.list
+    run.ladder.list
 }
 
 struct Run {
-    session: Session,
+    ladder: Ladder,
     samples: Samples,
     steps: usize,
 }
 
 impl Run {
     fn is_over(&self) -> bool {
-        self.session.list.steps() >= self.steps
+        self.ladder.list.steps() >= self.steps
     }
 
     fn program_all(&mut self) {
-        self.session.program_all();
+        self.ladder.program_all();
         self.samples.module_start();
     }
 
     fn segment(&mut self) {
-        let length = self.samples.draw_segment(&mut self.session.numbers);
+        let length = self.samples.draw_segment(&mut self.ladder.numbers);
         self.run_steps(length);
     }
 
@@ -69,39 +69,39 @@ impl Run {
         if self.is_over() {
             return;
         }
-        let session = &mut self.session;
-        let mut sample = self.samples.next(&mut session.numbers, &session.program);
+        let ladder = &mut self.ladder;
+        let mut sample = self.samples.next(&mut ladder.numbers, &ladder.program);
         sample[0] = raw.unwrap_or(sample[0]);
-        session.list.step(&sample);
+        ladder.list.step(&sample);
     }
 
     /// What a ladder program does between two segments.
     fn interlude(&mut self) {
-        match self.session.numbers.below(20) {
-            0..=4 => self.session.nudges(),
-            5 | 6 => self.session.sound_cycle(FileKind::Limit),
+        match self.ladder.numbers.below(20) {
+            0..=4 => self.ladder.nudges(),
+            5 | 6 => self.ladder.sound_cycle(FileKind::Limit),
             7 => {
-                self.session.sound_cycle(FileKind::Group);
-                self.session.sound_cycle(FileKind::Limit);
+                self.ladder.sound_cycle(FileKind::Group);
+                self.ladder.sound_cycle(FileKind::Limit);
             }
             8 | 9 => {
-                self.session.keeping_setup();
+                self.ladder.keeping_setup();
                 self.samples.module_start();
             }
             10 => self.program_all(),
             11 | 12 => {
-                let kind = self.session.numbers.pick(&FILE_KINDS);
-                self.session.faulty_cycle(kind);
+                let kind = self.ladder.numbers.pick(&FILE_KINDS);
+                self.ladder.faulty_cycle(kind);
             }
             13 | 14 => self.fault(),
-            15 => self.session.read_block(),
-            16 if self.session.numbers.one_in(8) => {
-                self.session.power_up();
+            15 => self.ladder.read_block(),
+            16 if self.ladder.numbers.one_in(8) => {
+                self.ladder.power_up();
                 self.program_all();
             }
             17 => self.stop_and_go(),
             18 => {
-                self.session.sound_cycle(FileKind::Setup);
+                self.ladder.sound_cycle(FileKind::Setup);
                 self.samples.module_start();
                 self.segment();
                 self.program_all();
@@ -112,14 +112,14 @@ impl Run {
 
     /// Runs up to an update of the speed, then stands up to a stop.
     fn stop_and_go(&mut self) {
-        let Session {
+        let Ladder {
             numbers, program, ..
-        } = &mut self.session;
+        } = &mut self.ladder;
         let length = self.samples.draw_run(numbers, program);
         self.run_steps(length);
-        let Session {
+        let Ladder {
             numbers, program, ..
-        } = &mut self.session;
+        } = &mut self.ladder;
         let length = self.samples.draw_stand(numbers, program);
         self.run_steps(length);
     }
@@ -127,28 +127,28 @@ impl Run {
     /// A raw position over 1023, some steps in fault, then ClrErr.
     fn fault(&mut self) {
         // Another offset, before a step has answered with it.
-        if self.session.numbers.one_in(3) {
-            self.session.keeping_setup();
+        if self.ladder.numbers.one_in(3) {
+            self.ladder.keeping_setup();
         }
-        for _ in 0..self.session.numbers.between(1, 3) {
+        for _ in 0..self.ladder.numbers.between(1, 3) {
             let raw = self
-                .session
+                .ladder
                 .numbers
                 .pick(&[1024, 1025, 2047, 0x8000, 0xffff]);
             self.step(Some(raw));
         }
-        let length = self.session.numbers.below(20);
+        let length = self.ladder.numbers.below(20);
         self.run_steps(length);
-        match self.session.numbers.below(6) {
+        match self.ladder.numbers.below(6) {
             // Accepted or not, these may leave the fault.
-            0 => self.session.keeping_setup(),
-            1 => self.session.faulty_cycle(FileKind::Group),
-            2 => self.session.sound_cycle(FileKind::Limit),
+            0 => self.ladder.keeping_setup(),
+            1 => self.ladder.faulty_cycle(FileKind::Group),
+            2 => self.ladder.sound_cycle(FileKind::Limit),
             _ => {}
         }
-        let length = self.session.numbers.below(4);
+        let length = self.ladder.numbers.below(4);
         self.run_steps(length);
-        self.session.clear_errors();
+        self.ladder.clear_errors();
         self.samples.module_start();
     }
 }

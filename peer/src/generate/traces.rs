@@ -68,14 +68,16 @@ impl Trace {
         self.count(count);
         let mut samples = Samples::new();
         let mut segment = 0;
-        for _ in 0..count {
+        // A fault stays to the end of the trace, so it comes late.
+        let fault = numbers.between(count - count / 4, count);
+        let fault = numbers.one_in(8).then_some(fault);
+        for number in 1..=count {
             if segment == 0 {
                 segment = samples.draw_segment(numbers);
             }
             segment -= 1;
             let mut sample = samples.next(numbers, program);
-            // A fault stays to the end of the trace.
-            if numbers.one_in(20000) {
+            if fault == Some(number) {
                 sample[0] |= 1 << numbers.between(10, 15);
             }
             self.words.extend(sample);

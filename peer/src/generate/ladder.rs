@@ -1,6 +1,6 @@
-//! A list of calls under construction, with what it should have put in
-//! force. Cycles are sent in every manner: once, again, with the
-//! acknowledge left standing, with and without ClrErr.
+//! A ladder program that makes the calls of a list, and knows what they
+//! should have put in force. Cycles are sent in every manner: once, again,
+//! with the acknowledge left standing, with and without ClrErr.
 
 use crate::blocks::limit_block_at;
 use crate::cycles::{NudgeCycle, CLEAR_ERRORS, M0_WORDS, M1_WORDS, NUDGE_CLEAR_ERRORS, TRANSMIT};
@@ -12,7 +12,7 @@ use crate::group::GROUPS;
 use crate::limit_block::{block_pair, PAIRS};
 use crate::switch::OUTPUTS;
 
-pub struct Session {
+pub struct Ladder {
     pub numbers: Numbers,
     pub list: CallList,
     pub program: Program,
@@ -22,10 +22,10 @@ pub struct Session {
     error_stands: bool,
 }
 
-impl Session {
-    /// A session without a module yet.
-    pub fn new(seed: u64) -> Session {
-        Session {
+impl Ladder {
+    /// A ladder program without a module yet.
+    pub fn new(seed: u64) -> Ladder {
+        Ladder {
             numbers: Numbers::new(seed),
             list: CallList::default(),
             program: Program::fresh(0),

@@ -6,6 +6,7 @@ use crate::answer::cycle_line;
 use crate::answer::file_line;
 use crate::answer::put_outcome;
 use crate::answer::put_words;
+use crate::answer::step_line;
 use crate::input::Input;
 use crate::input::kept;
 use crate::input::read_file;
@@ -127,8 +128,15 @@ fn nudge_call(r: Replay) -> Replay {
 }
 
 // The step of a sample, and its line.
-fn stepped(r: Replay, _s: Sample) -> Replay {
-    r
+fn stepped(r: Replay, s: Sample) -> Replay {
+    let card = r.card;
+    let d = engine::step(card, s);
+    let answer = d.answer;
+    show(step_line(answer));
+    let after = d.card;
+    let mut next = r;
+    next.card = after;
+    next
 }
 
 fn step_call(r: Replay) -> Replay {

@@ -1,13 +1,11 @@
 -- What the code reckons of a step is what rules' definitions say of it: the groups, the outputs, and the two calls.
 -- Assumes nothing.
-use Prim.Native.Nat.{ℕ, _+_, _-_, _<_, _≤_}
+use Prim.Native.Nat.{ℕ, _-_, _<_, _≤_}
 use mathlib.Core.Bool.{Bool, true, false, _&&_, and-assoc}
-use mathlib.Core.List.{List}
 use mathlib.Core.Path.{_≡_, refl, sym, ap, _∙_}
 use native.Mathlib.Nat.{zero-add}
 use native.Mathlib.Omega.{arith}
 use lib.ListN.{length, getD, List·getD-eq-default}
-use Rattle.rules.specs.declared.GroupPosition.{GroupPosition}
 use Rattle.rules.specs.declared.Model.{Model}
 use Rattle.rules.specs.declared.IoType.the-variants.{Real}
 use Rattle.rules.specs.declared.Anded.{Anded}
@@ -16,24 +14,20 @@ use Rattle.rules.specs.declared.Configuration.{Configuration}
 use Rattle.rules.specs.declared.State.{State}
 use Rattle.rules.specs.declared.Module.{Module}
 use Rattle.rules.specs.declared.Sample.{Sample}
-use Rattle.rules.specs.declared.Stepped.{Stepped}
 use Rattle.rules.specs.Words.{bit, packed, wordOf, table, forced}
 use Rattle.rules.specs.Motion.{machineAt}
 use Rattle.rules.specs.Groups.{noGroup, groupAt, isOpen}
 use Rattle.rules.specs.Switches.{typeOf, present, forcedOff, forcedOn, ownerOf, limitOf, switchPosition, detectorHolds, admitted, andsHold, outputRule, outputOn, soundAnswer, faultAnswer}
 use Rattle.rules.specs.Programming.{sound, stepConfiguration}
-use Rattle.rules.specs.Card.{noPosition, timedAt, speedAt, eventAt, groupsAt, positionAt, openAt, timedHolds, timedNow, conditionsAt, outputAt, moduleStart, soundState, stepState, stepAnswer, stepCall}
+use Rattle.rules.specs.Card.{noPosition, eventAt, groupsAt, positionAt, openAt, timedHolds, timedNow, conditionsAt, outputAt, soundState, stepState, stepAnswer, stepCall}
 use Rattle.word.proofs.Laws.{packed-bit, packed-same, bit-past}
 use Rattle.motion.proofs.Laws.{level-is}
-use Rattle.engine.specs.declared.Reading.{Reading}
 use Rattle.engine.specs.declared.GroupAfter.{GroupAfter}
-use Rattle.engine.specs.declared.GroupsAfter.{GroupsAfter}
 use Rattle.engine.specs.declared.OutputAfter.{OutputAfter}
-use Rattle.engine.specs.declared.OutputsAfter.{OutputsAfter}
 use Rattle.engine.specs.declared.OutputWords.{OutputWords}
 use Rattle.engine.specs.Groups.{readingIn, readingAt, eventIn, groupIn, groupOf, groupsIn}
 use Rattle.engine.specs.Outputs.{positionIn, openIn, admittedIn, enabledIn, detectorIn, passesIn, onIn, timedIn, outputIn, outputOf, outputsIn, wordsIn}
-use Rattle.engine.specs.Calls.{soundAnswerIn, faultAnswerIn, stateIn, groupsOf, outputsOf, wordsOf, soundCall, faultCall}
+use Rattle.engine.specs.Calls.{soundAnswerIn, faultAnswerIn, stateIn, outputsOf, wordsOf, soundCall, faultCall}
 use Rattle.engine.proofs.Lists.{table-same, table-anywhere}
 
 module _ (g : Configuration) (x : State) (s : Sample) where

@@ -2,3 +2,4 @@ pub mod Lists
 pub mod Outputs
 pub mod Words
 pub mod Calls
+pub mod Lent

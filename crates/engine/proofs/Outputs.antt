@@ -2,7 +2,7 @@
 -- Assumes nothing.
 use Prim.Native.Nat.{ℕ, _+_}
 use mathlib.Core.Bool.{Bool, true, false, cond, _&&_, true≢false, false≢true}
-use mathlib.Core.Path.{_≡_, refl, ap, _∙_}
+use mathlib.Core.Path.{_≡_, refl}
 use lib.Dec.{ltb}
 use lib.IntN.{ℤ}
 use Rattle.rules.specs.declared.Position.{Position}
@@ -14,7 +14,6 @@ use Rattle.rules.specs.Motion.{travelValue}
 use Rattle.rules.specs.Switches.{pairHolds, switchHolds}
 use Rattle.rules.specs.Card.{freshTimed, timedAfter}
 use Rattle.engine.specs.declared.Reading.{Reading}
-use Rattle.engine.specs.declared.OutputAfter.{OutputAfter}
 use Rattle.engine.specs.Outputs.{isTimed, isProgrammed, passesIn, onIn, timedIn, outputIn}
 
 held-lasts : (held : Bool) (left : ℕ) → held && ltb 0 (cond held left 0) ≡ ltb 0 (cond held left 0)

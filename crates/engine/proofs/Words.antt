@@ -1,11 +1,11 @@
 -- Laws of the two words of outputs: forces and missing outputs, applied to whole words, are those of each output.
 -- Assumes nothing.
-use Prim.Native.Nat.{ℕ, zero, suc, _+_, _-_, _*_, _/_, _%_, _^_, _≤_, _<_}
-use mathlib.Core.Bool.{Bool, true, false, cond, _&&_, _||_, and-true}
-use mathlib.Core.Path.{_≡_, refl, sym, ap, ap₂, _∙_}
+use Prim.Native.Nat.{ℕ, zero, suc, _+_, _-_, _/_, _^_, _<_}
+use mathlib.Core.Bool.{Bool, _&&_, and-true}
+use mathlib.Core.Path.{_≡_, refl, ap, _∙_}
 use native.Mathlib.Nat.{zero-add}
 use native.Mathlib.Omega.{arith}
-use lib.Dec.{ltb, leb}
+use lib.Dec.{ltb}
 use lib.Bits.{bitAnd}
 use lib.Pow.{shr-shr}
 use borrow.Author.Tests.{lt-ltb, le-ltb, le-leb, lt-leb}
@@ -13,7 +13,7 @@ use Rattle.rules.specs.declared.Model.{Model}
 use Rattle.rules.specs.declared.Sample.{Sample}
 use Rattle.rules.specs.Words.{bit, packed, wordOf, forced}
 use Rattle.rules.specs.Motion.{realCount}
-use Rattle.rules.specs.Switches.{present, forcedOff, forcedOn, outputOn}
+use Rattle.rules.specs.Switches.{present, outputOn}
 use Rattle.word.proofs.Laws.{packed-bit, packed-same, and-bit, all-bits}
 
 -- the lower and the higher digits of a number

@@ -1,7 +1,7 @@
 -- What a step answers and leaves, over what the code has in hand; proofs/Laws.antt shows each to be rules' definition of it.
 -- Assumes nothing.
 use Prim.Native.Nat.{ℕ}
-use mathlib.Core.Bool.{Bool, true, false}
+use mathlib.Core.Bool.{true, false}
 use mathlib.Core.List.{List}
 use Rattle.rules.specs.declared.MachinePosition.{MachinePosition}
 use Rattle.rules.specs.declared.Setup.{Setup}

@@ -547,3 +547,12 @@ pub fn step(m: Module, s: Sample) -> Stepped
     }
     sound_step(m, s)
 }
+
+// The same step on a module that is lent, changed where it sits.
+pub fn step_in_place(m: &mut Module, s: Sample) -> Answer
+    ensures { λ r. ⌜ (now (m .exit) ≡ (card.stepCall (now (m .entry)) s) .card) × (r ≡ (card.stepCall (now (m .entry)) s) .answer) ⌝ }
+{
+    let r = step(*m, s);
+    *m = r.card;
+    r.answer
+}

@@ -1,7 +1,7 @@
 -- Laws of the rules of motion: the word of the active real inputs, remainders as naturals, bounds of the products, and the signed numbers that the state's unsigned ones stand for.
 -- Assumes nothing.
 use Prim.Native.Nat.{ℕ, zero, suc, _+_, _-_, _*_, _%_, _^_, _≤_, _<_}
-use mathlib.Core.Bool.{Bool, true, false, not, _&&_, _||_, xor, Bool·beq}
+use mathlib.Core.Bool.{Bool, true, false, not, _&&_, xor, Bool·beq}
 use mathlib.Core.Path.{_≡_, refl, sym, ap, _∙_}
 use native.Mathlib.Nat.{mul-le-mul, zero-add}
 use native.Mathlib.Numerals.{add-one}

@@ -1,8 +1,9 @@
 // Words of 16 bits and files of words: what the readers and writers of the card's files, inputs and outputs are made of.
 
 ghost use mathlib.Core.Path.{_≡_};
+ghost use mathlib.Core.List.{[], _∷_};
 ghost use mathlib.Core.Bool.{false, not, cond};
-ghost use Prim.Native.Nat.{_+_};
+ghost use Prim.Native.Nat.{_+_, _-_, _<_};
 ghost use lib.Dec.{leb};
 ghost use lib.ListN.{length, getD};
 ghost use Rattle.rules.specs.Words as words;
@@ -108,4 +109,30 @@ pub fn store(file: &mut [u16], at: usize, words: &[u16])
         file[at + k] = words[k];
         k = k + 1;
     }
+}
+
+// The word with these six lowest bits.
+pub fn bits(b0: bool, b1: bool, b2: bool, b3: bool, b4: bool, b5: bool) -> u16
+    ensures { λ r. ⌜ (r ≡ words.bits (b0 ∷ b1 ∷ b2 ∷ b3 ∷ b4 ∷ b5 ∷ [])) × (r < 64) ⌝ }
+{
+    let high = digit(b4) + 2 * digit(b5);
+    let middle = digit(b2) + 2 * (digit(b3) + 2 * high);
+    digit(b0) + 2 * (digit(b1) + 2 * middle)
+}
+
+// 1 for true, 0 for false.
+fn digit(b: bool) -> u16
+    ensures { λ r. ⌜ (r ≡ words.digit b) × (r < 2) ⌝ }
+{
+    if b { 1 } else { 0 }
+}
+
+// One less, and 0 of 0.
+pub fn one_less(n: u16) -> u16
+    ensures { λ r. ⌜ r ≡ n - 1 ⌝ }
+{
+    if n == 0 {
+        return 0;
+    }
+    n - 1
 }

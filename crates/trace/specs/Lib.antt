@@ -1,3 +1,2 @@
 pub mod Buffer
 pub mod Digits
-pub mod Sections

@@ -2,7 +2,7 @@
 -- Assumes nothing.
 use Prim.Native.Nat.{ℕ, zero, suc, _+_, _-_, _*_, _%_, _^_, _≤_, _<_}
 use mathlib.Core.Bool.{Bool, true, false, not, _&&_, _||_, xor, Bool·beq}
-use mathlib.Core.Path.{_≡_, refl, sym, ap, ap₂, _∙_}
+use mathlib.Core.Path.{_≡_, refl, sym, ap, _∙_}
 use native.Mathlib.Nat.{mul-le-mul, zero-add}
 use native.Mathlib.Numerals.{add-one}
 use native.Mathlib.Omega.{arith}
@@ -21,11 +21,11 @@ use Rattle.rules.specs.declared.Setup.{Setup}
 use Rattle.rules.specs.declared.Sample.{Sample}
 use Rattle.rules.specs.declared.Travel.{Travel}
 use Rattle.rules.specs.declared.Window.{Window}
-use Rattle.rules.specs.Words.{bit, wordOf}
+use Rattle.rules.specs.Words.{bit, wordOf, forced}
 use Rattle.rules.specs.Motion.{realCount, realInput, inputLevel, turned, scaledPosition, movement, rpmOf, codeNumber, signed, travelValue}
 use Rattle.rules.specs.Card.{biasedMovement, updates, travelOf}
 use Rattle.rules.proofs.Laws.{modulo-natural}
-use Rattle.word.proofs.Laws.{and-bit, or-bit, xor-bit, not-bit, and-packed, packed-same, packed-bit, packed-lt, bit-past}
+use Rattle.word.proofs.Laws.{xor-bit, not-bit, forces-packed, packed-same, packed-bit, packed-lt, bit-past}
 use Rattle.motion.specs.Level.{levelIn}
 
 -- ---- Inputs
@@ -45,15 +45,10 @@ unfolding realInput
 inputs-word m u s =
     let same : ℕ = bitXor (s .currents) (u .states) in
     let active : ℕ = bitXor (bitXor (s .currents) (u .states)) 65535 in
-    let off : ℕ = bitXor (s .inputsoff) 65535 in
-    let on : ℕ = bitOr (s .inputson) active in
-    and-packed 16 (bitAnd off on) (λ n. ltb n (realCount m))
-    ∙ packed-same 16 0 (λ n. ltb n (realCount m) && bit (bitAnd off on) n) (realInput m u s)
-    (λ k a h. ap (λ (b : Bool). ltb k (realCount m) && b)
-    (and-bit off on k
-    ∙ ap₂ _&&_ (not-bit (s .inputsoff) k h)
-    (or-bit (s .inputson) active k
-    ∙ ap (λ (b : Bool). bit (s .inputson) k || b) (not-bit same k h ∙ ap not (xor-bit (s .currents) (u .states) k) ∙ not-xor (bit (s .currents) k) (bit (u .states) k)))))
+    forces-packed (s .inputsoff) (s .inputson) active (λ n. ltb n (realCount m))
+    ∙ packed-same 16 0 (λ n. ltb n (realCount m) && forced (bit (s .inputsoff) n) (bit (s .inputson) n) (bit active n)) (realInput m u s)
+    (λ k a h. ap (λ (b : Bool). ltb k (realCount m) && forced (bit (s .inputsoff) k) (bit (s .inputson) k) b)
+    (not-bit same k h ∙ ap not (xor-bit (s .currents) (u .states) k) ∙ not-xor (bit (s .currents) k) (bit (u .states) k)))
 
 count-le : (m : Model) → realCount m ≤ 16
 unfolding realCount

@@ -24,8 +24,8 @@ use rules::Window;
 // c is made at every 120th step.
 const SHORT_STEPS: u16 = 120;
 
-// The real inputs that a module has, a bit for each.
-fn present(m: Model) -> u16
+// The real inputs, or the real outputs, that a module has, a bit for each.
+pub fn present(m: Model) -> u16
     ensures { λ r. ⌜ r ≡ words.wordOf 0 (λ n. ltb n (motion.realCount m)) ⌝ }
 {
     match m {

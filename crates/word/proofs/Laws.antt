@@ -14,7 +14,7 @@ use borrow.Author.Tests.{le-leb, eq-eqb, ne-eqb}
 use lib.Bits.{bitAnd, bitOr, bitXor, and-step, or-step, xor-step, and-shr, or-shr, xor-shr, and-le-l, differ}
 use lib.Count.{ones, ones-step}
 use mir.Val.{boolByte}
-use Rattle.rules.specs.Words.{word, bit, digit, packed, someOf, countOf, storedAt, anyWord}
+use Rattle.rules.specs.Words.{word, bit, digit, packed, someOf, countOf, storedAt, anyWord, forced}
 
 -- ---- `packed`
 
@@ -156,7 +156,7 @@ unfolding xor
 xor-true true = refl
 xor-true false = refl
 
-all-bits : (k : ℕ) → k < 16 → bit 65535 k ≡ true
+pub all-bits : (k : ℕ) → k < 16 → bit 65535 k ≡ true
 unfolding packed
 all-bits k h = packed-bit 16 0 k (λ n. true) h
 
@@ -168,6 +168,13 @@ pub and-packed : (n w : ℕ) (f : ℕ → Bool) → bitAnd (packed n 0 f) w ≡ 
 and-packed n w f =
     word-is n (bitAnd (packed n 0 f) w) (λ k. f k && bit w k) (lt-of-le-of-lt (and-le-l (packed n 0 f) w) (packed-lt n 0 f))
     (λ k h. and-bit (packed n 0 f) w k ∙ ap (λ (b : Bool). b && bit w k) (packed-bit n 0 k f h ∙ ap f (zero-add k)))
+
+-- forces laid over a word, off beats on, of the bits that are there
+pub forces-packed : (off on w : ℕ) (f : ℕ → Bool) → bitAnd (packed 16 0 f) (bitAnd (bitXor off 65535) (bitOr on w)) ≡ packed 16 0 (λ k. f k && forced (bit off k) (bit on k) (bit w k))
+forces-packed off on w f =
+    and-packed 16 (bitAnd (bitXor off 65535) (bitOr on w)) f
+    ∙ packed-same 16 0 (λ k. f k && bit (bitAnd (bitXor off 65535) (bitOr on w)) k) (λ k. f k && forced (bit off k) (bit on k) (bit w k))
+    (λ k a h. ap (λ (b : Bool). f k && b) (and-bit (bitXor off 65535) (bitOr on w) k ∙ ap₂ _&&_ (not-bit off k h) (or-bit on w k)))
 
 -- past its digits a word has no bit set
 pub bit-past : (w k n : ℕ) → w < 2 ^ n → n ≤ k → bit w k ≡ false

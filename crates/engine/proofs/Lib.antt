@@ -1,0 +1,4 @@
+pub mod Lists
+pub mod Outputs
+pub mod Words
+pub mod Calls

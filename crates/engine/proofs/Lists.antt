@@ -1,0 +1,86 @@
+-- Laws of lists that the loops of a step cite: an element by any default, and tables filled upwards and downwards.
+-- Assumes nothing.
+use Prim.Native.Nat.{ℕ, zero, suc, _+_, _-_, _<_, _≤_}
+use mathlib.Core.Bool.{Bool, true, false}
+use mathlib.Core.List.{List, [], _∷_, map}
+use mathlib.Core.Path.{_≡_, refl, sym, ap, _∙_}
+use native.Mathlib.Numerals.{add-one}
+use native.Mathlib.Omega.{arith}
+use lib.Dec.{ltb}
+use lib.ListN.{length, getD, take, drop, set, length-set, length-map, drop-of-length-le, List·getD-eq-default}
+use lib.Seq.{take-suc-set, take-all}
+use borrow.Author.Tests.{ltb-true, ltb-false}
+use Rattle.rules.specs.Words.{table}
+use Rattle.rules.proofs.Packing.{length-table, getD-table-0}
+use Rattle.group.proofs.Laws.{table-more}
+
+module _ {A : Type 0} where
+  -- inside a list the default does not matter
+  pub getD-inside : (xs : List A) (n : ℕ) (d e : A) → n < length xs → getD xs n d ≡ getD xs n e
+  getD-inside [] n d e h = absurd (omega arith)
+  getD-inside (x ∷ xs) zero d e h = refl
+  getD-inside (x ∷ xs) (suc n) d e h = getD-inside xs n d e (omega arith)
+
+  -- a table read anywhere: past its end by a default that the function has there
+  pub table-anywhere : (n : ℕ) (f : ℕ → A) (d : A) (k : ℕ) → (n ≤ k → f k ≡ d) → getD (table n 0 f) k d ≡ f k
+  table-anywhere n f d k past = by-place (ltb k n) refl where
+    by-place : (inside : Bool) → ltb k n ≡ inside → getD (table n 0 f) k d ≡ f k
+    by-place true e = getD-table-0 n f d k (ltb-true k n e)
+    by-place false e =
+        let l : n ≤ k = ltb-false k n e in
+        List·getD-eq-default (table n 0 f) d (omega (arith, length-table n 0 f)) ∙ sym (past l)
+
+  -- functions that agree make one table
+  pub table-same : (n i : ℕ) (f g : ℕ → A) → ((k : ℕ) → f k ≡ g k) → table n i f ≡ table n i g
+  unfolding table
+  table-same zero i f g h = refl
+  table-same (suc n) i f g h = rw (h i, table-same n (i + 1) f g h)
+
+  -- a list of n elements whose first k are those of a function
+  abbrev pub FilledUp : ℕ → ℕ → (ℕ → A) → List A → Type 0
+  FilledUp n k f xs = (length xs ≡ n) × (take k xs ≡ table k 0 f)
+
+  pub up-none : (n : ℕ) (f : ℕ → A) (xs : List A) → length xs ≡ n → FilledUp n 0 f xs
+  unfolding table
+  up-none n f xs h = (h, refl)
+
+  pub up-more : (n k : ℕ) (f : ℕ → A) (xs : List A) (v : A) → k < n → FilledUp n k f xs → v ≡ f k → FilledUp n (k + 1) f (set xs k v)
+  up-more n k f xs v h e q =
+      let z : 0 + k ≡ k = omega arith in
+      (simp length-set (e .0), rw (add-one k, take-suc-set xs k v (omega arith), e .1, q) (rw z at (table-more k 0 f)))
+
+  pub up-all : (n k : ℕ) (f : ℕ → A) (xs : List A) → k ≡ n → FilledUp n k f xs → xs ≡ table n 0 f
+  up-all n k f xs h e = sym (take-all n xs (omega arith)) ∙ rw h at (e .1)
+
+  -- a list of n elements of which those from k on are those of a function
+  abbrev pub FilledDown : ℕ → ℕ → (ℕ → A) → List A → Type 0
+  FilledDown n k f xs = (length xs ≡ n) × (drop k xs ≡ table (n - k) k f)
+
+  pub down-none : (n : ℕ) (f : ℕ → A) (xs : List A) → length xs ≡ n → FilledDown n n f xs
+  unfolding table
+  down-none n f xs h =
+      let z : n - n ≡ 0 = omega arith in
+      (h, rw z (drop-of-length-le xs {i = n} (omega arith)))
+
+  drop-set : (xs : List A) (k : ℕ) (v : A) → k < length xs → drop k (set xs k v) ≡ v ∷ drop (k + 1) xs
+  drop-set [] k v h = absurd (omega arith)
+  drop-set (x ∷ xs) zero v h = refl
+  drop-set (x ∷ xs) (suc k) v h =
+      let e : suc k + 1 ≡ suc (k + 1) = omega arith in
+      rw e (drop-set xs k v (omega arith))
+
+  pub down-more : (n k : ℕ) (f : ℕ → A) (xs : List A) (v : A) → 0 < k → k ≤ n → FilledDown n k f xs → v ≡ f (k - 1) → FilledDown n (k - 1) f (set xs (k - 1) v)
+  unfolding table
+  down-more n k f xs v h l e q =
+      let m : n - (k - 1) ≡ suc (n - k) = omega arith in
+      let j : k - 1 + 1 ≡ k = omega arith in
+      (simp length-set (e .0), rw (m, drop-set xs (k - 1) v (omega arith), j, e .1, q))
+
+  pub down-all : (n k : ℕ) (f : ℕ → A) (xs : List A) → k ≡ 0 → FilledDown n k f xs → xs ≡ table n 0 f
+  down-all n k f xs h e =
+      let z : n - 0 ≡ n = omega arith in
+      rw z at (rw h at (e .1))
+
+-- the length of an array of structs, told of the list of their values
+pub length-mapped : {X Y : Type 0} (f : X → Y) (l : List X) (n : ℕ) → length (map f l) ≡ n → length l ≡ n
+length-mapped f l n e = sym (length-map l f) ∙ e

@@ -1,0 +1,63 @@
+-- Laws of the two words of outputs: forces and missing outputs, applied to whole words, are those of each output.
+-- Assumes nothing.
+use Prim.Native.Nat.{ℕ, zero, suc, _+_, _-_, _*_, _/_, _%_, _^_, _≤_, _<_}
+use mathlib.Core.Bool.{Bool, true, false, cond, _&&_, _||_, and-true}
+use mathlib.Core.Path.{_≡_, refl, sym, ap, ap₂, _∙_}
+use native.Mathlib.Nat.{zero-add}
+use native.Mathlib.Omega.{arith}
+use lib.Dec.{ltb, leb}
+use lib.Bits.{bitAnd}
+use lib.Pow.{shr-shr}
+use borrow.Author.Tests.{lt-ltb, le-ltb, le-leb, lt-leb}
+use Rattle.rules.specs.declared.Model.{Model}
+use Rattle.rules.specs.declared.Sample.{Sample}
+use Rattle.rules.specs.Words.{bit, packed, wordOf, forced}
+use Rattle.rules.specs.Motion.{realCount}
+use Rattle.rules.specs.Switches.{present, forcedOff, forcedOn, outputOn}
+use Rattle.word.proofs.Laws.{packed-bit, packed-same, and-bit, all-bits}
+
+-- the lower and the higher digits of a number
+low-bit : (w k : ℕ) → k < 16 → bit (bitAnd w 65535) k ≡ bit w k
+low-bit w k h = and-bit w 65535 k ∙ rw (all-bits k h) (and-true (bit w k))
+
+high-bit : (w n k : ℕ) → bit (w / 2 ^ n) k ≡ bit w (n + k)
+unfolding bit
+high-bit w n k = rw (shr-shr w n k)
+
+-- the digits from j + i on
+packed-on : (n i j : ℕ) (f : ℕ → Bool) → packed n i (λ k. f (j + k)) ≡ packed n (j + i) f
+unfolding packed
+packed-on zero i j f = refl
+packed-on (suc n) i j f =
+    let e : j + i + 1 ≡ j + (i + 1) = omega arith in
+    rw (e, packed-on n (i + 1) j f)
+
+module _ (m : Model) (s : Sample) (rule : ℕ) where
+  abbrev realAt : ℕ → Bool
+  realAt n =
+      bit (wordOf 0 (λ k. ltb k (realCount m))) n && forced (bit (s .realoff) n) (bit (s .realon) n) (bit (bitAnd rule 65535) n)
+
+  abbrev virtualAt : ℕ → Bool
+  virtualAt n =
+      bit 65535 n && forced (bit (s .virtualoff) n) (bit (s .virtualon) n) (bit (rule / 65536) n)
+
+  real-at : (n : ℕ) → n < 16 → realAt n ≡ outputOn m s (bit rule) n
+  unfolding outputOn present
+  real-at n h =
+      let e : bit (wordOf 0 (λ k. ltb k (realCount m))) n ≡ ltb n (realCount m) =
+      packed-bit 16 0 n (λ k. ltb k (realCount m)) h ∙ ap (λ (k : ℕ). ltb k (realCount m)) (zero-add n) in
+      rw (e, low-bit rule n h, lt-leb 16 n h, lt-ltb n 16 h)
+
+  virtual-at : (n : ℕ) → n < 16 → virtualAt n ≡ outputOn m s (bit rule) (16 + n)
+  unfolding outputOn present
+  virtual-at n h =
+      let e : 16 + n - 16 ≡ n = omega arith in
+      rw (all-bits n h, high-bit rule 16 n, le-leb 16 (16 + n) (omega arith), le-ltb (16 + n) 16 (omega arith), e)
+
+  pub real-word : wordOf 0 realAt ≡ wordOf 0 (outputOn m s (bit rule))
+  real-word = packed-same 16 0 realAt (outputOn m s (bit rule)) (λ k a h. real-at k h)
+
+  pub virtual-word : wordOf 0 virtualAt ≡ wordOf 16 (outputOn m s (bit rule))
+  virtual-word =
+      packed-same 16 0 virtualAt (λ k. outputOn m s (bit rule) (16 + k)) (λ k a h. virtual-at k h)
+      ∙ packed-on 16 0 16 (outputOn m s (bit rule))

@@ -1,0 +1,3 @@
+pub mod Groups
+pub mod Outputs
+pub mod Calls

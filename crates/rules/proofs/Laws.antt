@@ -1,14 +1,16 @@
--- Laws of the rules' numbers that more than one proof cites: the difference modulo SF as sums and remainders of naturals, and the position a preset gives.
+-- Laws that more than one proof cites: the difference modulo SF as sums and remainders of naturals, the position a preset gives, the length of a file.
 -- Assumes nothing.
 use Prim.Native.Nat.{ℕ, zero, suc, _+_, _-_, _*_, _/_, _%_, _≤_, _<_}
 use mathlib.Core.Bool.{Bool, true, false, cond}
 use mathlib.Core.Path.{_≡_, refl, sym, ap, _∙_}
+use mathlib.Core.List.{List, [], _∷_}
 use native.Mathlib.Nat.{mod-lt, mod-eq-of-lt, mod-mod, add-mod-mod, mod-add-mod, add-mod-right, add-mul-mod-self-right, div-add-mod'}
 use native.Mathlib.Omega.{arith}
 use borrow.Author.Tests.{ltb-true, ltb-false}
+use lib.ListN.{length, set, length-set}
 use lib.Dec.{ltb, leb}
 use lib.IntN.{ℤ, pos, negsuc, subℕ}
-use Rattle.rules.specs.Words.{modulo}
+use Rattle.rules.specs.Words.{modulo, storedAt}
 use Rattle.rules.specs.Groups.{ahead}
 
 -- a remainder stays below its divisor
@@ -75,3 +77,9 @@ ahead-takes t from to =
     ∙ ap (λ (x : ℕ). x % (t + 1)) e
     ∙ add-mul-mod-self-right (to + 1 * (t + 1)) (from / (t + 1)) (t + 1)
     ∙ add-mul-mod-self-right to 1 (t + 1))
+
+-- words stored into a file leave it as long as it was
+pub length-stored : (at : ℕ) (ws file : List ℕ) → length (storedAt at ws file) ≡ length file
+unfolding storedAt
+length-stored at [] file = refl
+length-stored at (w ∷ ws) file = length-stored (at + 1) ws (set file at w) ∙ length-set file at w

@@ -15,3 +15,4 @@ pub mod Ranges
 pub mod Reachable
 pub mod Reading
 pub mod Runs
+pub mod Reports

@@ -139,19 +139,20 @@ history m l s =
     ∙ answer-same (configurationOf m l) s _ _ _ _ _ _ (outputAt (configurationOf m l) (run m l .state) s) (expectedOutput m l s)
     (runs-on m l .position) (rpm-in m l (run m l .state) (agrees m l) s) (runs-on m l .virtuals) (real-is m l s) (virtuals-is m l s)
 
-from : (m : Model) (past calls : List Call) → answers (run m past) calls ≡ expectedAnswers m past calls
+-- the answers of the calls after `past`
+pub answers-from : (m : Model) (past calls : List Call) → answers (run m past) calls ≡ expectedAnswers m past calls
 unfolding answers expectedAnswers run
-from m past [] = refl
-from m past (Step s ∷ calls) = rw (history m past s, from m (Step s ∷ past) calls)
-from m past (SetupCall file ∷ calls) = from m (SetupCall file ∷ past) calls
-from m past (GroupCall file ∷ calls) = from m (GroupCall file ∷ past) calls
-from m past (LimitCall file ∷ calls) = from m (LimitCall file ∷ past) calls
-from m past (NudgeCall w ∷ calls) = from m (NudgeCall w ∷ past) calls
+answers-from m past [] = refl
+answers-from m past (Step s ∷ calls) = rw (history m past s, answers-from m (Step s ∷ past) calls)
+answers-from m past (SetupCall file ∷ calls) = answers-from m (SetupCall file ∷ past) calls
+answers-from m past (GroupCall file ∷ calls) = answers-from m (GroupCall file ∷ past) calls
+answers-from m past (LimitCall file ∷ calls) = answers-from m (LimitCall file ∷ past) calls
+answers-from m past (NudgeCall w ∷ calls) = answers-from m (NudgeCall w ∷ past) calls
 
 -- in the order of time: a fresh module's answers to the steps of any list of calls are what 01 says of them
 pub every-answer : (m : Model) (calls : List Call) → answers (poweredUp (modelNumber m) .card) calls ≡ expectedAnswers m [] calls
 unfolding run
-every-answer m calls = from m [] calls
+every-answer m calls = answers-from m [] calls
 
 -- ---- By outputs
 

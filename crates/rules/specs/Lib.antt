@@ -9,4 +9,5 @@ pub mod Calls
 pub mod History
 pub mod Run
 pub mod Trace
+pub mod Reports
 pub mod Cases

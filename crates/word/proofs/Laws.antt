@@ -8,7 +8,7 @@ use native.Mathlib.Nat.{lt-of-lt-of-le, lt-of-le-of-lt, zero-add, pow-suc, mul-c
 use native.Mathlib.Numerals.{add-one}
 use native.Mathlib.Omega.{arith}
 use lib.Dec.{leb, eqb, eqb·suc-zero}
-use lib.ListN.{length, getD, take, set, length-set}
+use lib.ListN.{length, getD, take, set}
 use lib.Pow.{pow-mono}
 use borrow.Author.Tests.{le-leb, eq-eqb, ne-eqb}
 use lib.Bits.{bitAnd, bitOr, bitXor, and-step, or-step, xor-step, and-shr, or-shr, xor-shr, and-le-l, differ}
@@ -236,11 +236,6 @@ any-one from to k file a b h =
     some-one (to + 1 - from) from (k - from) (λ n. not (eqb (word file n) 0)) (omega arith) (rw (e, ne-eqb (word file k) 0 h))
 
 -- ---- Words stored into a file
-
-pub length-stored : (at : ℕ) (ws file : List ℕ) → length (storedAt at ws file) ≡ length file
-unfolding storedAt
-length-stored at [] file = refl
-length-stored at (w ∷ ws) file = length-stored (at + 1) ws (set file at w) ∙ length-set file at w
 
 -- where they all lie in the file
 pub stored-whole : (at : ℕ) (ws file : List ℕ) → at + length ws ≤ length file → cond (leb (at + length ws) (length file)) (storedAt at ws file) file ≡ storedAt at ws file

@@ -147,6 +147,13 @@ class Openness(unittest.TestCase):
         samples = [sample(raw, bits(1) if raw in (100, 120, 200) else 0) for raw in raws]
         self.assertEqual(open_steps(group(2, 1, dwell=(50, 60)), samples), [(1, 5), (7, 8)])
 
+    def test_a_preset_into_the_dwell_is_no_beginning(self):
+        """Dwell 50/60 and preset 55: the group stays open in the dwell that the edge at 100 puts it in, and closes at the next one."""
+        samples = [sample(raw, bits(1) if raw == 100 else 0) for raw in (90, 100, 101, 104, 105, 200, 94, 95)]
+        course = course_of(group(2, 1, dwell=(50, 60), offset=55), samples)
+        self.assertEqual([in_dwell for in_dwell, _ in course], [False, True, True, True, False, False, False, True])
+        self.assertEqual([is_open for _, is_open in course], [False, True, True, True, True, True, True, False])
+
     def test_mode_3(self):
         samples = [sample(0), sample(1, bits(1)), sample(2, bits(1)), sample(3)]
         self.assertEqual(open_steps(group(3, 1), samples), [(1, 3)])
@@ -237,6 +244,12 @@ class Drawn(unittest.TestCase):
         for words in ("input 1<", "output 1<", "group 2", "answered 11"):
             self.assertNotIn(words, drawn)
         self.assertIn("samples 100 to 900 of 1500", drawn)
+
+    def test_forced_off_beats_forced_on(self):
+        data = trace(8513, samples=[sample(0, on=bits(1), off=bits(1))])
+        drawn = timing.draw(data, dark_report([0]), "", argparse.Namespace(samples=None, inputs=None, outputs=[1]), {})
+        self.assertIn("forced off", drawn)
+        self.assertNotIn("forced on", drawn)
 
     def test_one_sample(self):
         chosen = argparse.Namespace(samples=(951, 951), inputs=None, outputs=None)

@@ -259,7 +259,7 @@ def read_names(text):
     names = {}
     for line in text.splitlines():
         parts = re.fullmatch(r"(input|output) ([0-9]{1,2}) (.+)", line)
-        if not parts:
+        if not parts or not line.isprintable():
             raise Mismatch("`%s` is not a line of a names file, such as `output 1 glue gun`." % line)
         names[parts[1], int(parts[2])] = parts[3]
     return names
@@ -290,13 +290,14 @@ def main(words):
     try:
         names = read_names(contents(chosen.names).decode("utf-8", "replace")) if chosen.names else {}
         report_text = contents(chosen.report).decode("ascii", "replace")
-        sys.stdout.write(draw(contents(chosen.trace), report_text, title, chosen, names))
+        picture = draw(contents(chosen.trace), report_text, title, chosen, names)
     except Mismatch as problem:
         print(problem, file=sys.stderr)
         return 1
     except OSError as problem:
         print("%s cannot be read: %s." % (problem.filename, problem.strerror), file=sys.stderr)
         return 1
+    sys.stdout.buffer.write(picture.encode("utf-8", "replace"))
     return 0
 
 

@@ -79,10 +79,10 @@ fn power_call(r: Replay) -> Replay {
 // A cycle that takes a file.
 fn acted(kind: Cycle, m: Module, file: &mut [u16]) -> Programmed {
     match kind {
-        Cycle::SetupCycle => cycles::setup::setup_cycle(m, file),
-        Cycle::GroupCycle => cycles::groups::group_cycle(m, file),
-        Cycle::LimitCycle => cycles::limits::limit_cycle(m, file),
-        Cycle::NudgeCycle => cycles::nudge::nudge_cycle(m, 0),
+        Cycle::SetupCycle => setup::setup_cycle(m, file),
+        Cycle::GroupCycle => groups::group_cycle(m, file),
+        Cycle::LimitCycle => limits::limit_cycle(m, file),
+        Cycle::NudgeCycle => nudge::nudge_cycle(m, 0),
     }
 }
 
@@ -119,7 +119,7 @@ fn nudge_call(r: Replay) -> Replay {
         return none(r);
     }
     let card = r.card;
-    let p = cycles::nudge::nudge_cycle(card, w);
+    let p = nudge::nudge_cycle(card, w);
     show(cycle_line(Cycle::NudgeCycle, p));
     let after = p.card;
     let mut next = r;
@@ -154,7 +154,7 @@ fn step_call(r: Replay) -> Replay {
 // The block reader's line.
 fn block_line<'a>(m0: &'a [u16], m1: &'a [u16], group: bool, n: u16) {
     let mut why: u16 = 0;
-    let part = cycles::reader::read_block(m0, m1, group, n, &mut why);
+    let part = reader::read_block(m0, m1, group, n, &mut why);
     let l = put_decimal(put_text(text::empty(), b"block "), why as u32);
     show(put_words(l, part, 0, part.len()));
 }

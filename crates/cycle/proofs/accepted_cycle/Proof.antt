@@ -1,0 +1,12 @@
+use Rattle.rules.specs.Programming.{acceptedCycle}
+use mathlib.Core.Path.{refl}
+use borrow.Author.Needs.{needs}
+use Rattle.cycle.proofs.accepted_cycle.Statement.{statement}
+use Rattle.cycle.proofs.accepted_cycle.Tie as tie
+
+returns : tie.Need-returns
+unfolding acceptedCycle
+returns c = refl
+
+pub accepted-cycle-spec : {M : Type 1} → statement M
+accepted-cycle-spec = tie.close (tie.spec returns)

@@ -1,0 +1,12 @@
+use Rattle.rules.specs.Programming.{ignoredCycle}
+use mathlib.Core.Path.{refl}
+use borrow.Author.Needs.{needs}
+use Rattle.cycle.proofs.ignored_cycle.Statement.{statement}
+use Rattle.cycle.proofs.ignored_cycle.Tie as tie
+
+returns : tie.Need-returns
+unfolding ignoredCycle
+returns c = refl
+
+pub ignored-cycle-spec : {M : Type 1} → statement M
+ignored-cycle-spec = tie.close (tie.spec returns)

@@ -1,0 +1,12 @@
+use mathlib.Core.Path.{refl}
+use Rattle.rules.specs.Card.{groupStart}
+use borrow.Author.Needs.{needs}
+use Rattle.groups.proofs.group_start.Statement.{statement}
+use Rattle.groups.proofs.group_start.Tie as tie
+
+returns : tie.Need-returns
+unfolding groupStart
+returns c = refl
+
+pub group-start-spec : {M : Type 1} → statement M
+group-start-spec = tie.close (tie.spec returns)

@@ -1,0 +1,41 @@
+use borrow.Author.Tests.{eq-eqb, ne-eqb}
+use Rattle.rules.specs.Programming.{limitErrors, limitBits}
+use borrow.Author.Needs.{needs}
+use Rattle.limits.proofs.limit_errors.Statement.{statement}
+use Rattle.limits.proofs.limit_errors.Tie as tie
+
+limit-reserved-requires : tie.Need-limit-reserved-requires
+limit-reserved-requires c κs = search needs
+
+returns : tie.Need-returns
+unfolding limitErrors
+returns c = rw (← c .before .limit-reserved .ensures) (rw (c .if1 .taken))
+
+failing-limit-requires : tie.Need-failing-limit-requires
+failing-limit-requires c κs = search needs
+
+returns-2 : tie.Need-returns-2
+unfolding limitErrors
+returns-2 c = rw (← c .before .before .before .limit-reserved .ensures, ← c .before .failing-limit .ensures) (rw (c .before .before .if1 .left, eq-eqb _ _ (c .if2 .taken)))
+
+is-unassigned-requires : tie.Need-is-unassigned-requires
+is-unassigned-requires c κs = search needs
+
+bits-of-requires : tie.Need-bits-of-requires
+bits-of-requires c κs = search needs
+
+returns-3 : tie.Need-returns-3
+unfolding limitErrors limitBits
+returns-3 c = rw (← c .before .before .before .before .before .before .before .limit-reserved .ensures, c .bits-of .ensures, c .before .is-unassigned .ensures, ← c .before .before .before .before .before .failing-limit .ensures) (rw (c .before .before .before .before .before .before .if1 .left, ne-eqb _ _ (c .before .before .before .before .if2 .left)))
+
+pub limit-errors-spec : {M : Type 1} → statement M
+limit-errors-spec =
+    tie.close
+    (tie.spec
+    limit-reserved-requires
+    returns
+    failing-limit-requires
+    returns-2
+    is-unassigned-requires
+    bits-of-requires
+    returns-3)

@@ -1,0 +1,12 @@
+use mathlib.Core.Path.{refl}
+use Rattle.rules.specs.Card.{limitStart}
+use borrow.Author.Needs.{needs}
+use Rattle.limits.proofs.limit_start.Statement.{statement}
+use Rattle.limits.proofs.limit_start.Tie as tie
+
+returns : tie.Need-returns
+unfolding limitStart
+returns c = refl
+
+pub limit-start-spec : {M : Type 1} → statement M
+limit-start-spec = tie.close (tie.spec returns)

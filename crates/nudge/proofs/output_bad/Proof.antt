@@ -1,0 +1,36 @@
+use borrow.Author.Needs.{needs}
+use Rattle.nudge.proofs.output_bad.Statement.{statement}
+use Rattle.nudge.proofs.output_bad.Tie as tie
+
+pair-missing-requires : tie.Need-pair-missing-requires
+pair-missing-requires c κs = search needs
+
+bit-requires : tie.Need-bit-requires
+bit-requires c κs = search needs
+
+bit-requires-2 : tie.Need-bit-requires-2
+bit-requires-2 c κs = search needs
+
+bit-requires-3 : tie.Need-bit-requires-3
+bit-requires-3 c κs = search needs
+
+bit-requires-4 : tie.Need-bit-requires-4
+bit-requires-4 c κs = search needs
+
+bit-requires-5 : tie.Need-bit-requires-5
+bit-requires-5 c κs = search needs
+
+returns : tie.Need-returns
+returns c = rw (c .bit5 .ensures, c .before .bit4 .ensures, c .before .before .bit3 .ensures, c .before .before .before .bit2 .ensures, c .before .before .before .before .bit .ensures, c .before .before .before .before .before .pair-missing .ensures)
+
+pub output-bad-spec : {M : Type 1} → statement M
+output-bad-spec =
+    tie.close
+    (tie.spec
+    pair-missing-requires
+    bit-requires
+    bit-requires-2
+    bit-requires-3
+    bit-requires-4
+    bit-requires-5
+    returns)

@@ -170,10 +170,10 @@ pub fn module_of(c: Case) -> Module {
     let mut m1 = m1_file(c.full);
     let p = Module::power_up(c.number);
     let fresh = p.card;
-    let q = cycles::setup::setup_cycle(fresh, &mut m0);
+    let q = setup::setup_cycle(fresh, &mut m0);
     let with_setup = q.card;
-    let r = cycles::groups::group_cycle(with_setup, &mut m0);
+    let r = groups::group_cycle(with_setup, &mut m0);
     let with_groups = r.card;
-    let s = cycles::limits::limit_cycle(with_groups, &mut m1);
+    let s = limits::limit_cycle(with_groups, &mut m1);
     s.card
 }

@@ -17,35 +17,27 @@ part-length n bytes h = omega (arith, h, length-take n bytes)
 within : (bytes room : List ℕ) {after : List ℕ} {n : ℕ} → after ≡ written bytes room → n ≡ min (length bytes) (length room) → n ≤ length after
 within bytes room e h = rw e (omega (arith, h, length-append (take (length room) bytes) (drop (length bytes) room), length-take (length room) bytes, length-drop (length bytes) room))
 
--- src/main.rt:22:21
 trace-space-requires : tie.Need-trace-space-requires
 trace-space-requires c κs = Prim.tt
 
--- src/main.rt:23:19
 report-space-requires : tie.Need-report-space-requires
 report-space-requires c κs = Prim.tt
 
--- src/main.rt:24:43
 slice-aggregate-read-full : tie.Need-slice-aggregate-read-full
 slice-aggregate-read-full c = c .before .before .trace-space .ensures
 
--- src/main.rt:24:9
 read-full-requires : tie.Need-read-full-requires
 read-full-requires c κs = Prim.tt
 
--- src/main.rt:25:27
 array-share-prefix-input : tie.Need-array-share-prefix-input
 array-share-prefix-input c = c .before .read-full .ensures .0
 
--- src/main.rt:25:27
 slice-aggregate-report : tie.Need-slice-aggregate-report
 slice-aggregate-report c = part-length _ _ (c .before .before .read-full .ensures .0)
 
--- src/main.rt:25:42
 slice-aggregate-report-2 : tie.Need-slice-aggregate-report-2
 slice-aggregate-report-2 c = c .before .before .before .before .before .report-space .ensures
 
--- src/main.rt:25:9
 report-requires : tie.Need-report-requires
 report-requires c κs = Prim.tt
 
@@ -58,19 +50,15 @@ report-within c =
     (c .report .ensures .0)
     (c .report .ensures .1)
 
--- src/main.rt:26:34
 array-share-prefix-out : tie.Need-array-share-prefix-out
 array-share-prefix-out c = report-within (c .before)
 
--- src/main.rt:26:34
 slice-aggregate-write-all : tie.Need-slice-aggregate-write-all
 slice-aggregate-write-all c = part-length _ _ (report-within (c .before .before))
 
--- src/main.rt:26:5
 write-all-requires : tie.Need-write-all-requires
 write-all-requires c κs = Prim.tt
 
--- src/main.rt:21:1
 returns : tie.Need-returns
 returns c = Prim.tt
 

@@ -1,3 +1,4 @@
+-- `camrun::report_space` meets its contract: the length of the repeated byte, by a law and not by counting. Assumes nothing.
 use Prim.Native.Nat.{ℕ}
 use mathlib.Core.Path.{sym}
 use lib.ListN.{length-replicate}

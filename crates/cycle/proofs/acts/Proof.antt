@@ -1,3 +1,4 @@
+-- `cycle::acts` meets its contract: transmit, and no acknowledge. Assumes nothing.
 use borrow.Author.Needs.{needs}
 use Rattle.cycle.proofs.acts.Statement.{statement}
 use Rattle.cycle.proofs.acts.Tie as tie

@@ -1,3 +1,4 @@
+-- `cycle::error_of` meets its contract: by the refusal. Assumes nothing.
 use borrow.Author.Needs.{needs}
 use Rattle.cycle.proofs.error_of.Statement.{statement}
 use Rattle.cycle.proofs.error_of.Tie as tie

@@ -1,3 +1,4 @@
+-- `cycle::finished` meets its contract: by the outcome. Assumes nothing.
 use borrow.Author.Needs.{needs}
 use Rattle.cycle.proofs.finished.Statement.{statement}
 use Rattle.cycle.proofs.finished.Tie as tie

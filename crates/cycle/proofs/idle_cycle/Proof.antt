@@ -1,3 +1,4 @@
+-- `cycle::idle_cycle` meets its contract: by transmit. Assumes nothing.
 use Rattle.rules.specs.Programming.{idleCycle}
 use borrow.Author.Needs.{needs}
 use Rattle.cycle.proofs.idle_cycle.Statement.{statement}

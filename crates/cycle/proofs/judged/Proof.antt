@@ -1,3 +1,4 @@
+-- `cycle::judged` meets its contract: barred, accepted or refused. Assumes nothing.
 use Rattle.rules.specs.Programming.{judged}
 use borrow.Author.Tests.{eq-eqb, ne-eqb}
 use borrow.Author.Needs.{needs}

@@ -1,3 +1,4 @@
+-- `cycle::opened` meets its contract: by ClrErr. Assumes nothing.
 use Rattle.rules.specs.Programming.{opened}
 use borrow.Author.Needs.{needs}
 use Rattle.cycle.proofs.opened.Statement.{statement}

@@ -1,3 +1,4 @@
+-- `cycle::refused_cycle` meets its contract: the fields that the definition sets. Assumes nothing.
 use Rattle.rules.specs.Programming.{refusedCycle}
 use borrow.Author.Needs.{needs}
 use Rattle.cycle.proofs.refused_cycle.Statement.{statement}

@@ -1,3 +1,4 @@
+-- `cycle::stands` meets its contract: error by error. Assumes nothing.
 use Rattle.rules.specs.Programming.{stands}
 use borrow.Author.Needs.{needs}
 use Rattle.cycle.proofs.stands.Statement.{statement}

@@ -1,3 +1,4 @@
+-- `cycle::with_acknowledge` meets its contract: by the kind of cycle. Assumes nothing.
 use borrow.Author.Needs.{needs}
 use Rattle.cycle.proofs.with_acknowledge.Statement.{statement}
 use Rattle.cycle.proofs.with_acknowledge.Tie as tie

@@ -1,3 +1,4 @@
+-- `groups::failing_group` meets its contract: the reserved words first, then the lowest group. Assumes nothing.
 use Rattle.rules.specs.Programming.{failingGroup}
 use borrow.Author.Needs.{needs}
 use Rattle.groups.proofs.failing_group.Statement.{statement}

@@ -1,3 +1,4 @@
+-- `groups::group_acts` meets its contract: the judgement with the check handed in. Assumes nothing.
 use mathlib.Core.Bool.{or-true, or-false}
 use Rattle.rules.specs.Programming.{stands}
 use borrow.Author.Needs.{needs}

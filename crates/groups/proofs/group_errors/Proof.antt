@@ -1,3 +1,4 @@
+-- `groups::group_errors` meets its contract: the reserved words first, then the bits of the lowest failing group. Assumes nothing.
 use borrow.Author.Tests.{eq-eqb, ne-eqb}
 use Rattle.rules.specs.Programming.{groupErrors}
 use borrow.Author.Needs.{needs}

@@ -1,3 +1,4 @@
+-- `groups::group_reserved` meets its contract: the reserved bits of word 20, then the words. Assumes nothing.
 use Rattle.rules.specs.Programming.{groupReserved}
 use borrow.Author.Needs.{needs}
 use Rattle.groups.proofs.group_reserved.Statement.{statement}

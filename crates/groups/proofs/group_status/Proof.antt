@@ -1,3 +1,4 @@
+-- `groups::group_status` meets its contract: the ten words one by one. Assumes nothing.
 use Rattle.rules.specs.declared.GroupPosition.{GroupPosition}
 use Rattle.rules.specs.Card.{noPosition}
 use Rattle.groups.proofs.Laws.{six}

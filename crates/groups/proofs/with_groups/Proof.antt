@@ -1,3 +1,4 @@
+-- `groups::with_groups` meets its contract: the fields that the definition sets. Assumes nothing.
 use Rattle.rules.specs.Programming.{withGroups}
 use borrow.Author.Needs.{needs}
 use Rattle.groups.proofs.with_groups.Statement.{statement}

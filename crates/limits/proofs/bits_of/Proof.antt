@@ -1,3 +1,4 @@
+-- `limits::bits_of` meets its contract: unread, without a group, or by its block. Assumes nothing.
 use borrow.Author.Needs.{needs}
 use Rattle.limits.proofs.bits_of.Statement.{statement}
 use Rattle.limits.proofs.bits_of.Tie as tie

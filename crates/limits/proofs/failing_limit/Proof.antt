@@ -1,3 +1,4 @@
+-- `limits::failing_limit` meets its contract: the reserved words first, then the lowest output. Assumes nothing.
 use Rattle.rules.specs.Programming.{failingLimit, limitBits}
 use borrow.Author.Needs.{needs}
 use Rattle.limits.proofs.failing_limit.Statement.{statement}

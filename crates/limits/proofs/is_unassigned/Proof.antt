@@ -1,3 +1,4 @@
+-- `limits::is_unassigned` meets its contract: by the mode, then by the owner. Assumes nothing.
 use mathlib.Core.Path.{_≡_, refl}
 use Prim.Native.Nat.{_≤_}
 use lib.ListN.{length, List·getD-eq-default}

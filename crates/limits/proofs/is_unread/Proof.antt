@@ -1,3 +1,4 @@
+-- `limits::is_unread` meets its contract: missing, or an all-zero block. Assumes nothing.
 use mathlib.Core.Bool.{not, _||_}
 use borrow.Author.Needs.{needs}
 use Rattle.limits.proofs.is_unread.Statement.{statement}

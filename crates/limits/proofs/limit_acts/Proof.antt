@@ -1,3 +1,4 @@
+-- `limits::limit_acts` meets its contract: the judgement with the check handed in. Assumes nothing.
 use Rattle.rules.specs.Programming.{withLimits}
 use borrow.Author.Needs.{needs}
 use Rattle.limits.proofs.limit_acts.Statement.{statement}

@@ -1,3 +1,4 @@
+-- `limits::limit_errors` meets its contract: the reserved words first, then the bits of the lowest failing output. Assumes nothing.
 use borrow.Author.Tests.{eq-eqb, ne-eqb}
 use Rattle.rules.specs.Programming.{limitErrors, limitBits}
 use borrow.Author.Needs.{needs}

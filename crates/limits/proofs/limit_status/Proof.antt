@@ -1,3 +1,4 @@
+-- `limits::limit_status` meets its contract: the twenty words one by one. Assumes nothing.
 use borrow.Author.Needs.{needs}
 use Rattle.limits.proofs.limit_status.Statement.{statement}
 use Rattle.limits.proofs.limit_status.Tie as tie

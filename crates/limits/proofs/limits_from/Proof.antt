@@ -1,3 +1,4 @@
+-- `limits::limits_from` meets its contract: the invariant is that the first `i` limits are the table of the first `i` blocks. Assumes nothing.
 use Prim.Native.Nat.{_+_, _-_, _≤_}
 use mathlib.Core.Path.{_≡_, refl, sym, _∙_}
 use native.Mathlib.Omega.{arith}

@@ -1,3 +1,4 @@
+-- `nudge::fails` meets its contract: by the type of switch. Assumes nothing.
 use borrow.Author.Needs.{needs}
 use Rattle.nudge.proofs.fails.Statement.{statement}
 use Rattle.nudge.proofs.fails.Tie as tie

@@ -1,3 +1,4 @@
+-- `nudge::leaves_range` meets its contract: down, or up. Assumes nothing.
 use Rattle.rules.specs.Programming.{leavesRange}
 use Rattle.nudge.proofs.Laws.{leb-both}
 use borrow.Author.Needs.{needs}

@@ -1,3 +1,4 @@
+-- `nudge::nudge_acts` meets its contract: dropped errors, an error that stands, 9, 10, or the limit in its place. Assumes nothing.
 use mathlib.Core.Path.{_≡_, refl, sym, _∙_}
 use Rattle.rules.specs.Programming.{nudgeActs, nudgeOutputBad, nudgedProgramming, withLimits}
 use borrow.Author.Needs.{needs}

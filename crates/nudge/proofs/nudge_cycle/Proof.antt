@@ -1,3 +1,4 @@
+-- `nudge::nudge_cycle` meets its contract: Idle, or a cycle that acts. Assumes nothing.
 use mathlib.Core.Bool.{true, false}
 use mathlib.Core.Path.{_≡_, refl, sym, _∙_}
 use Rattle.rules.specs.declared.Cycle.the-variants.{NudgeCycle}

@@ -1,3 +1,4 @@
+-- `nudge::nudged` meets its contract: a setpoint that does not leave the range has room for one count. Assumes nothing.
 use mathlib.Core.Bool.{true, false, _&&_, true≢false}
 use mathlib.Core.Path.{_≡_, refl, sym, _∙_}
 use Prim.Native.Nat.{_+_}

@@ -1,3 +1,4 @@
+-- `nudge::nudged_limit` meets its contract: where 10 does not come, both setpoints have room. Assumes nothing.
 use Rattle.rules.specs.Programming.{nudgePair, nudgedLimit}
 use Rattle.nudge.proofs.Laws.{on-stays, off-stays}
 use Prim.Native.Nat.{_+_}

@@ -1,3 +1,4 @@
+-- `nudge::output_bad` meets its contract: test by test. Assumes nothing.
 use borrow.Author.Needs.{needs}
 use Rattle.nudge.proofs.output_bad.Statement.{statement}
 use Rattle.nudge.proofs.output_bad.Tie as tie

@@ -1,3 +1,4 @@
+-- `nudge::pair_missing` meets its contract: by the type of switch. Assumes nothing.
 use borrow.Author.Needs.{needs}
 use Rattle.nudge.proofs.pair_missing.Statement.{statement}
 use Rattle.nudge.proofs.pair_missing.Tie as tie

@@ -1,3 +1,4 @@
+-- `nudge::result_bad` meets its contract: 0/0, or the checks of a limit block. Assumes nothing.
 use Rattle.rules.specs.Programming.{resultBad}
 use borrow.Author.Needs.{needs}
 use Rattle.nudge.proofs.result_bad.Statement.{statement}

@@ -1,3 +1,4 @@
+-- `nudge::setpoint_bad` meets its contract: test by test. Assumes nothing.
 use mathlib.Core.Bool.{true, false, _&&_}
 use mathlib.Core.Path.{_≡_, refl, sym, _∙_}
 use Prim.Native.Nat.{_+_}

@@ -1,3 +1,4 @@
+-- `reader::read_block` meets its contract: where the reader does not refuse, the part lies within the file. Assumes nothing.
 use Prim.Native.Nat.{_+_, _-_, _*_, _≤_}
 use mathlib.Core.Path.{_≡_, refl, sym, _∙_}
 use native.Mathlib.Omega.{arith}

@@ -1,3 +1,4 @@
+-- `reader::refusal_of` meets its contract: lengths first, then the block number. Assumes nothing.
 use mathlib.Core.Bool.{true, false}
 use borrow.Author.Tests.{eq-eqb, ne-eqb, lt-ltb, le-ltb}
 use Rattle.rules.specs.Programming.{numberOf, readerRefusal}

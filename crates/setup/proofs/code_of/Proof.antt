@@ -1,3 +1,4 @@
+-- `setup::code_of` meets its contract: code by code. Assumes nothing.
 use borrow.Author.Tests.{ne-eqb}
 use borrow.Author.Needs.{needs}
 use Rattle.setup.proofs.code_of.Statement.{statement}

@@ -1,3 +1,4 @@
+-- `setup::detector_bad` meets its contract: test by test. Assumes nothing.
 use borrow.Author.Tests.{lt-ltb, le-ltb, eq-eqb, ne-eqb}
 use Rattle.rules.specs.Programming.{detectorBad}
 use borrow.Author.Needs.{needs}

@@ -1,3 +1,4 @@
+-- `setup::offset_of` meets its contract: the Preset bit, or the word. Assumes nothing.
 use Rattle.rules.specs.Programming.{setupOf}
 use borrow.Author.Needs.{needs}
 use Rattle.setup.proofs.offset_of.Statement.{statement}

@@ -1,3 +1,4 @@
+-- `setup::preset_offset` meets its contract: the difference, modulo SF, in natural numbers. Assumes nothing.
 use Prim.Native.Nat.{_+_, _-_, _%_}
 use mathlib.Core.Path.{refl, sym}
 use native.Mathlib.Omega.{arith}

@@ -1,3 +1,4 @@
+-- `setup::scalars_of` meets its contract: word by word. Assumes nothing.
 use Rattle.rules.specs.Programming.{setupOf}
 use borrow.Author.Needs.{needs}
 use Rattle.setup.proofs.scalars_of.Statement.{statement}

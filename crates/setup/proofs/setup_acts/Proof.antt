@@ -1,3 +1,4 @@
+-- `setup::setup_acts` meets its contract: the judgement with the check handed in. Assumes nothing.
 use borrow.Author.Needs.{needs}
 use Rattle.setup.proofs.setup_acts.Statement.{statement}
 use Rattle.setup.proofs.setup_acts.Tie as tie

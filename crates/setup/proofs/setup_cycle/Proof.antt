@@ -1,3 +1,4 @@
+-- `setup::setup_cycle` meets its contract: length, Idle, or a cycle that acts and rewrites its status words. Assumes nothing.
 use mathlib.Core.Bool.{true, false}
 use mathlib.Core.Path.{_≡_, refl, sym, _∙_}
 use Prim.Native.Nat.{_+_}

@@ -1,3 +1,4 @@
+-- `setup::setup_errors` meets its contract: bit by bit. Assumes nothing.
 use mathlib.Core.Path.{sym}
 use native.Mathlib.Nat.{add-zero}
 use Rattle.rules.specs.Programming.{setupErrors}

@@ -1,3 +1,4 @@
+-- `setup::setup_of` meets its contract: word by word. Assumes nothing.
 use Rattle.rules.specs.Programming.{setupOf}
 use borrow.Author.Needs.{needs}
 use Rattle.setup.proofs.setup_of.Statement.{statement}

@@ -1,3 +1,4 @@
+-- `setup::setup_reserved` meets its contract: the reserved bits of word 0, then the words. Assumes nothing.
 use Rattle.rules.specs.Programming.{setupReserved}
 use borrow.Author.Needs.{needs}
 use Rattle.setup.proofs.setup_reserved.Statement.{statement}

@@ -1,3 +1,4 @@
+-- `setup::setup_status` meets its contract: the ten words one by one. Assumes nothing.
 use borrow.Author.Needs.{needs}
 use Rattle.setup.proofs.setup_status.Statement.{statement}
 use Rattle.setup.proofs.setup_status.Tie as tie

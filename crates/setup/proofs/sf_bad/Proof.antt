@@ -1,3 +1,4 @@
+-- `setup::sf_bad` meets its contract: test by test. Assumes nothing.
 use borrow.Author.Tests.{lt-ltb, le-ltb}
 use Rattle.rules.specs.Programming.{sfBad}
 use borrow.Author.Needs.{needs}

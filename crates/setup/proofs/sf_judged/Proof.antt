@@ -1,3 +1,4 @@
+-- `setup::sf_judged` meets its contract: 1024 for a bad one. Assumes nothing.
 use Rattle.rules.specs.Programming.{sfJudged}
 use borrow.Author.Needs.{needs}
 use Rattle.setup.proofs.sf_judged.Statement.{statement}

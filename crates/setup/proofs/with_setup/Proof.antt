@@ -1,3 +1,4 @@
+-- `setup::with_setup` meets its contract: a changed SF or mode drops the programs. Assumes nothing.
 use borrow.Author.Tests.{eq-eqb, ne-eqb}
 use Rattle.rules.specs.Programming.{withSetup}
 use borrow.Author.Needs.{needs}

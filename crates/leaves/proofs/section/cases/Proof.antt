@@ -1,8 +1,8 @@
--- `leaves::cases` is safe and ends: the numbers left fall. Assumes nothing.
+-- `leaves::section::cases` is safe and ends: the numbers left fall. Assumes nothing.
 use Prim.Native.Nat.{_≤_, _-_}
 use borrow.Author.Needs.{needs}
-use Rattle.leaves.proofs.cases.Statement.{statement}
-use Rattle.leaves.proofs.cases.Tie as tie
+use Rattle.leaves.proofs.section.cases.Statement.{statement}
+use Rattle.leaves.proofs.section.cases.Tie as tie
 
 abbrev Inv-loop : tie.InvT-loop
 Inv-loop s row k₀ k = k ≤ 65535

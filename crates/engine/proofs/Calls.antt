@@ -20,7 +20,8 @@ use Rattle.rules.specs.Groups.{noGroup, groupAt, isOpen}
 use Rattle.rules.specs.Switches.{typeOf, present, forcedOff, forcedOn, ownerOf, limitOf, switchPosition, detectorHolds, admitted, andsHold, outputRule, outputOn, soundAnswer, faultAnswer}
 use Rattle.rules.specs.Programming.{sound, stepConfiguration}
 use Rattle.rules.specs.Card.{noPosition, eventAt, groupsAt, positionAt, openAt, timedHolds, timedNow, conditionsAt, outputAt, soundState, stepState, stepAnswer, stepCall}
-use Rattle.word.proofs.Laws.{packed-bit, packed-same, bit-past}
+use Rattle.rules.proofs.Packing.{packed-bit, packed-same}
+use Rattle.word.proofs.Laws.{bit-past}
 use Rattle.motion.proofs.Laws.{level-is}
 use Rattle.engine.specs.declared.GroupAfter.{GroupAfter}
 use Rattle.engine.specs.declared.OutputAfter.{OutputAfter}

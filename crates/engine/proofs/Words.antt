@@ -14,7 +14,8 @@ use Rattle.rules.specs.declared.Sample.{Sample}
 use Rattle.rules.specs.Words.{bit, packed, wordOf, forced}
 use Rattle.rules.specs.Motion.{realCount}
 use Rattle.rules.specs.Switches.{present, outputOn}
-use Rattle.word.proofs.Laws.{packed-bit, packed-same, and-bit, all-bits}
+use Rattle.rules.proofs.Packing.{packed-bit, packed-same}
+use Rattle.word.proofs.Laws.{and-bit, all-bits}
 
 -- the lower and the higher digits of a number
 low-bit : (w k : ℕ) → k < 16 → bit (bitAnd w 65535) k ≡ bit w k

@@ -25,7 +25,8 @@ use Rattle.rules.specs.Words.{bit, wordOf, forced}
 use Rattle.rules.specs.Motion.{realCount, realInput, inputLevel, turned, scaledPosition, movement, rpmOf, codeNumber, signed, travelValue}
 use Rattle.rules.specs.Card.{biasedMovement, updates, travelOf}
 use Rattle.rules.proofs.Laws.{modulo-natural}
-use Rattle.word.proofs.Laws.{xor-bit, not-bit, forces-packed, packed-same, packed-bit, packed-lt, bit-past}
+use Rattle.rules.proofs.Packing.{packed-same, packed-bit, packed-lt}
+use Rattle.word.proofs.Laws.{xor-bit, not-bit, forces-packed, bit-past}
 use Rattle.motion.specs.Level.{levelIn}
 
 -- ---- Inputs

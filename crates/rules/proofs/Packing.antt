@@ -10,7 +10,7 @@ use lib.Dec.{eqb}
 use borrow.Author.Tests.{eq-eqb, ne-eqb}
 use Rattle.rules.specs.Words.{bit, digit, packed, table}
 
-digit-le : (b : Bool) → digit b ≤ 1
+pub digit-le : (b : Bool) → digit b ≤ 1
 digit-le true = omega arith
 digit-le false = omega arith
 

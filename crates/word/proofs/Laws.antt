@@ -14,13 +14,10 @@ use borrow.Author.Tests.{le-leb, eq-eqb, ne-eqb}
 use lib.Bits.{bitAnd, bitOr, bitXor, and-step, or-step, xor-step, and-shr, or-shr, xor-shr, and-le-l, differ}
 use lib.Count.{ones, ones-step}
 use mir.Val.{boolByte}
+use Rattle.rules.proofs.Packing.{digit-le, packed-lt, packed-bit, packed-same}
 use Rattle.rules.specs.Words.{word, bit, digit, packed, someOf, countOf, storedAt, anyWord, forced}
 
 -- ---- `packed`
-
-pub digit-le : (b : Bool) → digit b ≤ 1
-digit-le true = omega arith
-digit-le false = omega arith
 
 -- `b as u16` in the code
 pub byte-digit : (b : Bool) → boolByte b ≡ digit b
@@ -40,33 +37,8 @@ rest : (n i : ℕ) (f : ℕ → Bool) → packed (suc n) i f / 2 ≡ packed n (i
 unfolding packed
 rest n i f = omega (arith, digit-le (f i))
 
-pub packed-lt : (n i : ℕ) (f : ℕ → Bool) → packed n i f < 2 ^ n
-unfolding packed
-packed-lt zero i f = omega arith
-packed-lt (suc n) i f = rw (pow-suc 2 n) (omega (arith, packed-lt n (i + 1) f, digit-le (f i)))
-
 pub packed-below : (n k i : ℕ) (f : ℕ → Bool) → n ≤ k → packed n i f < 2 ^ k
 packed-below n k i f h = lt-of-lt-of-le (packed-lt n i f) (pow-mono h)
-
--- bit 0 is the lowest digit, bit k + 1 is bit k of the half
-pub bit-zero : (w : ℕ) → bit w 0 ≡ eqb (w % 2) 1
-unfolding bit
-bit-zero w =
-    let e : w / 2 ^ 0 ≡ w = omega arith in
-    rw e
-
-pub bit-half : (w k : ℕ) → bit w (suc k) ≡ bit (w / 2) k
-unfolding bit
-bit-half w k = rw (pow-suc 2 k, mul-comm (2 ^ k) 2, ← div-div-eq-div-mul w 2 (2 ^ k))
-
-pub packed-bit : (n i k : ℕ) (f : ℕ → Bool) → k < n → bit (packed n i f) k ≡ f (i + k)
-packed-bit zero i k f h = absurd (omega arith)
-packed-bit (suc n) i zero f h =
-    let e : i + 0 ≡ i = omega arith in
-    rw (bit-zero, low n i f, e) (digit-bit (f i))
-packed-bit (suc n) i (suc k) f h =
-    let j : i + 1 + k ≡ i + suc k = omega arith in
-    bit-half (packed (suc n) i f) k ∙ rw (rest n i f) (packed-bit n (i + 1) k f (omega arith) ∙ ap f j)
 
 -- one turn of a loop from the top bit down: from the digits from `left` on to those from `left - 1` on
 pub packed-turn : (n left : ℕ) (f : ℕ → Bool) → 0 < left → left ≤ n → packed (n - left) left f * 2 + digit (f (left - 1)) ≡ packed (n - (left - 1)) (left - 1) f
@@ -75,13 +47,6 @@ packed-turn n left f h k =
     let e : n - (left - 1) ≡ suc (n - left) = omega arith in
     let j : left - 1 + 1 ≡ left = omega arith in
     rw (e, j)
-
--- the same bits, the same number
-pub packed-same : (n i : ℕ) (f g : ℕ → Bool) → ((k : ℕ) → i ≤ k → k < i + n → f k ≡ g k) → packed n i f ≡ packed n i g
-unfolding packed
-packed-same zero i f g h = refl
-packed-same (suc n) i f g h =
-    rw (h i (omega arith) (omega arith), packed-same n (i + 1) f g (λ k a b. h k (omega arith) (omega arith)))
 
 digit-of : (d : ℕ) → d < 2 → digit (eqb d 1) ≡ d
 digit-of zero h = refl

@@ -8,7 +8,8 @@ use borrow.Author.Needs.{needs}
 use Rattle.rules.specs.Card.{freshTimed}
 use Rattle.rules.specs.Switches.{pastLimits}
 use Rattle.rules.specs.Words.{packed}
-use Rattle.word.proofs.Laws.{byte-digit, digit-le, packed-below, packed-turn}
+use Rattle.rules.proofs.Packing.{digit-le}
+use Rattle.word.proofs.Laws.{byte-digit, packed-below, packed-turn}
 use Rattle.engine.specs.Outputs.{positionIn, openIn, outputOf, outputsIn}
 use Rattle.engine.specs.declared.OutputAfter.{OutputAfter}
 use Rattle.engine.proofs.Lists.{FilledDown, down-none, down-more, down-all}

@@ -1,6 +1,7 @@
 -- `group::three_bits` meets its contract: each bit is 0 or 1. Assumes nothing.
 use native.Mathlib.Omega.{arith}
-use Rattle.word.proofs.Laws.{digit-le, byte-digit}
+use Rattle.rules.proofs.Packing.{digit-le}
+use Rattle.word.proofs.Laws.{byte-digit}
 use borrow.Author.Needs.{needs}
 use Rattle.group.proofs.three_bits.Statement.{statement}
 use Rattle.group.proofs.three_bits.Tie as tie

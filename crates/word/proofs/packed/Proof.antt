@@ -6,7 +6,8 @@ use native.Mathlib.Omega.{arith}
 use borrow.Author.Needs.{needs}
 use lib.ListN.{getD}
 use Rattle.rules.specs.Words.{packed}
-use Rattle.word.proofs.Laws.{byte-digit, digit-le, packed-below, packed-turn}
+use Rattle.rules.proofs.Packing.{digit-le}
+use Rattle.word.proofs.Laws.{byte-digit, packed-below, packed-turn}
 use Rattle.word.proofs.packed.Statement.{statement}
 use Rattle.word.proofs.packed.Tie as tie
 

@@ -54,6 +54,13 @@ pub fn holds(top: u16, on: u16, off: u16, p: u16) -> bool
     ahead(top, on, p) < ahead(top, on, off)
 }
 
+// The same for counts out of range.
+fn holds_far(top: u16, on: u16, off: u16, p: u16) -> bool
+    ensures { λ r. ⌜ r ≡ groups.holds (top + 1) on off p ⌝ }
+{
+    ahead_far(top, on, p) < ahead_far(top, on, off)
+}
+
 // The magnitude of s, reduced mod SF: advance × c × SF / 245760. The whole product fits in 64 bits; below one turn nothing is left to reduce.
 fn shift_counts(top: u16, tenths: u16, counts: u32) -> u16
     ensures { λ r. ⌜ r ≡ shiftCounts (top + 1) tenths counts ⌝ }
@@ -137,24 +144,33 @@ fn setpoint(setpoints: [u16; 16], i: usize) -> u16
     0
 }
 
-// One pair at a position, its setpoints moved by their displacements. For how long it holds is decided here.
-fn pair_at(top: u16, onmove: u16, offmove: u16, on: u16, off: u16, p: Position) -> bool
-    ensures { λ r. ⌜ r ≡ pairAt (top + 1) onmove offmove on off (countAt p) ⌝ }
+// One pair at a position, its setpoints moved by their displacements. For how long it holds is decided here. That all its counts are in range is
+// tested once for the pair: on that way the tests within `moved_by` and `holds` are decided, and no division is left.
+fn pair_at(top: u16, onmove: u16, offmove: u16, on: u16, off: u16, p: u16) -> bool
+    ensures { λ r. ⌜ r ≡ pairAt (top + 1) onmove offmove on off p ⌝ }
 {
     if used_pair(on, off) {
+        if (top < onmove) | (top < offmove) | (top < on) | (top < off) | (top < p) {
+            return holds_far(
+                top,
+                moved_far(top, onmove, on),
+                moved_far(top, offmove, off),
+                p,
+            );
+        }
         return holds(
             top,
             moved_by(top, onmove, on),
             moved_by(top, offmove, off),
-            count_at(p),
+            p,
         );
     }
     false
 }
 
 // The loop that tests the pairs of a normal switch, up to the first that holds.
-fn some_pair(top: u16, onmove: u16, offmove: u16, setpoints: [u16; 16], p: Position) -> bool
-    ensures { λ r. ⌜ r ≡ somePair (top + 1) onmove offmove setpoints (countAt p) ⌝ }
+fn some_pair(top: u16, onmove: u16, offmove: u16, setpoints: [u16; 16], p: u16) -> bool
+    ensures { λ r. ⌜ r ≡ somePair (top + 1) onmove offmove setpoints p ⌝ }
 {
     let mut k: usize = 0;
     while k < 8 {
@@ -181,7 +197,14 @@ pub fn pair_holds(top: u16, c: Travel, l: Limit, k: u16, p: Position) -> bool
     let i = 2 * k as usize;
     let onmove = displacement(top, l.onadvance, c);
     let offmove = displacement(top, l.offadvance, c);
-    pair_at(top, onmove, offmove, setpoint(s, i), setpoint(s, i + 1), p)
+    pair_at(
+        top,
+        onmove,
+        offmove,
+        setpoint(s, i),
+        setpoint(s, i + 1),
+        count_at(p),
+    )
 }
 
 // Normal: some used pair holds. The displacements are worked out once for all its pairs.
@@ -191,7 +214,7 @@ pub fn normal_holds(top: u16, c: Travel, l: Limit, p: Position) -> bool
     let s = l.setpoints;
     let onmove = displacement(top, l.onadvance, c);
     let offmove = displacement(top, l.offadvance, c);
-    some_pair(top, onmove, offmove, s, p)
+    some_pair(top, onmove, offmove, s, count_at(p))
 }
 
 // Where pulse j of a train of Q pulses of K counts in R starts.

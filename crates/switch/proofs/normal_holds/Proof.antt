@@ -11,14 +11,17 @@ displacement-requires c κs = search needs
 displacement-requires-2 : tie.Need-displacement-requires-2
 displacement-requires-2 c κs = search needs
 
+count-at-requires : tie.Need-count-at-requires
+count-at-requires c κs = search needs
+
 some-pair-requires : tie.Need-some-pair-requires
 some-pair-requires c κs = search needs
 
 returns : tie.Need-returns
 returns c =
-    let x = c .before .before .before .before .args in
-    rw (some-moved (x .top) (travelValue (x .c)) (x .l) (x .p), c .some-pair .ensures, c .before .displacement2 .ensures, c .before .before .displacement .ensures)
+    let x = c .before .before .before .before .before .args in
+    rw (some-moved (x .top) (travelValue (x .c)) (x .l) (x .p), c .some-pair .ensures, c .before .count-at .ensures, c .before .before .displacement2 .ensures, c .before .before .before .displacement .ensures)
 
 pub normal-holds-spec : {M : Type 1} → statement M
 normal-holds-spec =
-    tie.close (tie.spec displacement-requires displacement-requires-2 some-pair-requires returns)
+    tie.close (tie.spec displacement-requires displacement-requires-2 count-at-requires some-pair-requires returns)

@@ -23,13 +23,16 @@ add-setpoint c = search needs
 setpoint-requires-2 : tie.Need-setpoint-requires-2
 setpoint-requires-2 c κs = search needs
 
+count-at-requires : tie.Need-count-at-requires
+count-at-requires c κs = search needs
+
 pair-at-requires : tie.Need-pair-at-requires
 pair-at-requires c κs = search needs
 
 returns : tie.Need-returns
 returns c =
-    let x = c .before .before .before .before .before .before .args in
-    rw (pair-moved (x .top) (travelValue (x .c)) (x .l) (x .k) (x .p), c .pair-at .ensures, c .before .setpoint2 .ensures, c .before .before .setpoint .ensures, c .before .before .before .displacement2 .ensures, c .before .before .before .before .displacement .ensures)
+    let x = c .before .before .before .before .before .before .before .args in
+    rw (pair-moved (x .top) (travelValue (x .c)) (x .l) (x .k) (x .p), c .pair-at .ensures, c .before .count-at .ensures, c .before .before .setpoint2 .ensures, c .before .before .before .setpoint .ensures, c .before .before .before .before .displacement2 .ensures, c .before .before .before .before .before .displacement .ensures)
 
 pub pair-holds-spec : {M : Type 1} → statement M
 pair-holds-spec =
@@ -41,5 +44,6 @@ pair-holds-spec =
     setpoint-requires
     add-setpoint
     setpoint-requires-2
+    count-at-requires
     pair-at-requires
     returns)

@@ -3,7 +3,6 @@ use Prim.Native.Nat.{_+_, _-_, _≤_}
 use mathlib.Core.Path.{_≡_, refl, sym, _∙_}
 use native.Mathlib.Omega.{arith}
 use Rattle.rules.specs.Words.{someOf}
-use Rattle.rules.specs.Switches.{countAt}
 use Rattle.switch.specs.Parts.{pairOf, somePair}
 use Rattle.switch.proofs.Ranges.{some-found, some-passed}
 use borrow.Author.Needs.{needs}
@@ -12,7 +11,7 @@ use Rattle.switch.proofs.some_pair.Tie as tie
 
 abbrev Inv-loop : tie.InvT-loop
 Inv-loop top onmove offmove p setpoints k₀ k =
-    (k ≤ 8) × (somePair (top + 1) onmove offmove setpoints (countAt p) ≡ someOf (8 - k) k (pairOf (top + 1) onmove offmove setpoints (countAt p)))
+    (k ≤ 8) × (somePair (top + 1) onmove offmove setpoints p ≡ someOf (8 - k) k (pairOf (top + 1) onmove offmove setpoints p))
 
 abbrev μ-loop : tie.MeasureT-loop
 μ-loop top onmove offmove p setpoints k₀ k = 8 - k
@@ -48,7 +47,7 @@ pair-at-requires c κs = tt
 -- the pair that the turn tests
 tested : (c : tie.After-pair-at Inv-loop μ-loop) →
     (let x = c .before .before .before .args in
-    pairOf (x .top + 1) (x .onmove) (x .offmove) (x .t4) (countAt (x .p)) (c .before .before .loop .k) ≡ c .pair-at .result)
+    pairOf (x .top + 1) (x .onmove) (x .offmove) (x .t4) (x .p) (c .before .before .loop .k) ≡ c .pair-at .result)
 unfolding pairOf
 tested c = sym (c .pair-at .ensures)
 

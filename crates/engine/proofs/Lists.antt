@@ -11,8 +11,7 @@ use lib.ListN.{length, getD, take, drop, set, length-set, length-map, drop-of-le
 use lib.Seq.{take-suc-set, take-all}
 use borrow.Author.Tests.{ltb-true, ltb-false}
 use Rattle.rules.specs.Words.{table}
-use Rattle.rules.proofs.Packing.{length-table, getD-table-0}
-use Rattle.group.proofs.Laws.{table-more}
+use Rattle.rules.proofs.Packing.{length-table, getD-table-0, table-more}
 
 module _ {A : Type 0} where
   -- inside a list the default does not matter

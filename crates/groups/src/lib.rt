@@ -22,12 +22,10 @@ use rules::State;
 use rules::TimedState;
 use word::Layout;
 ghost use mathlib.Core.Path.{_≡_};
-ghost use mathlib.Core.Bool.{cond, _||_};
-ghost use mathlib.Core.List.{List, [], _∷_, map, _++_};
+ghost use mathlib.Core.Bool.{cond};
+ghost use mathlib.Core.List.{[], _∷_, map, _++_};
 ghost use Prim.Native.Nat.{_+_, _-_, _<_};
-ghost use lib.ListN.{replicate};
 ghost use Rattle.rules.specs.declared.GroupPosition as position;
-ghost use Rattle.rules.specs.Words as words;
 ghost use Rattle.rules.specs.Programming as programming;
 ghost use Rattle.rules.specs.Card as card;
 ghost use Rattle.groups.specs.Parts.{lowestFailing, groupJudged};
@@ -54,7 +52,7 @@ fn lowest_failing(m: Model, top: u16, file: &[u16]) -> u16
     while 0 < left {
         let n = left;
         left = left - 1;
-        if group::group_bits(m, top, file, n) != 0 {
+        if group_block::group_bits(m, top, file, n) != 0 {
             found = n;
         }
     }
@@ -82,7 +80,7 @@ fn group_errors(m: Model, top: u16, file: &[u16]) -> u16
     if n == 0 {
         return 0;
     }
-    group::group_bits(m, top, file, n)
+    group_block::group_bits(m, top, file, n)
 }
 
 // Acceptance drops limit programs.
@@ -91,7 +89,7 @@ fn with_groups(p: Programming, gs: [Group; 6]) -> Programming
 {
     let l = Limit::NONE;
     let limits = [l; 32];
-    let owners = group::owners_of(gs);
+    let owners = group_block::owners_of(gs);
     let mut n = p;
     n.groups = gs;
     n.owners = owners;
@@ -106,7 +104,7 @@ fn group_acts(file: &[u16], errors: u16, g: Configuration) -> Decided
     let e = g.errors;
     let p = g.programming;
     let u = p.setup;
-    let gs = group::groups_of(file);
+    let gs = group_block::groups_of(file);
     if u.independent {
         return judged(true, errors, Refusal::GroupData, with_groups(p, gs), g);
     }

@@ -127,6 +127,6 @@ pub fn group_bits(l: Line, n: [Number; 8]) -> Line {
     let file = file_of(22, 0, block);
     put_result(
         l,
-        group::group_bits(model_of(real), top_of(n[0]), &file, 3) as u32,
+        group_block::group_bits(model_of(real), top_of(n[0]), &file, 3) as u32,
     )
 }

@@ -162,13 +162,13 @@ fn bits(top: u16, assigned: bool, timed: u16, block: [u16; 19]) -> u16 {
     let lower = timed % 16;
     let n = lower + 1;
     let file = file_of(2 + 19 * lower as usize, lower as usize, block);
-    if switch::all_zero(&file, n) {
+    if limit_block::all_zero(&file, n) {
         return 0;
     }
     if !assigned {
         return 1;
     }
-    switch::block_bits(top, switch::fifth_timed(&file, n), &file, n)
+    limit_block::block_bits(top, limit_block::fifth_timed(&file, n), &file, n)
 }
 
 fn put_block(l: Line, block: [u16; 19]) -> Line {

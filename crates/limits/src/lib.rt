@@ -20,7 +20,7 @@ use rules::TimedState;
 use word::Layout;
 ghost use mathlib.Core.Path.{_≡_};
 ghost use mathlib.Core.Bool.{cond};
-ghost use mathlib.Core.List.{List, [], _∷_};
+ghost use mathlib.Core.List.{_∷_};
 ghost use Prim.Native.Nat.{_+_, _-_, _<_};
 ghost use lib.ListN.{replicate};
 ghost use Rattle.rules.specs.Words as words;
@@ -59,8 +59,8 @@ fn is_unassigned(independent: bool, owners: [u16; 32], n: u16) -> bool
 fn is_unread(m: Model, file: &[u16], n: u16) -> bool
     ensures { λ r. ⌜ r ≡ unread m (now (file .entry)) n ⌝ }
 {
-    if switch::present(m, word::one_less(n)) {
-        return switch::all_zero(file, n);
+    if limit_block::present(m, word::one_less(n)) {
+        return limit_block::all_zero(file, n);
     }
     true
 }
@@ -75,7 +75,7 @@ fn bits_of(m: Model, top: u16, bare: bool, file: &[u16], n: u16) -> u16
     if bare {
         return 1;
     }
-    switch::block_bits(top, switch::fifth_timed(file, n), file, n)
+    limit_block::block_bits(top, limit_block::fifth_timed(file, n), file, n)
 }
 
 // The lowest of the 32 outputs that fails its checks, 0 if none does.
@@ -130,7 +130,7 @@ fn limits_from(m: Model, file: &[u16]) -> [Limit; 32]
     let mut limits = [none; 32];
     let mut i: usize = 0;
     while i < 32 {
-        limits[i] = switch::limit_from(m, file, i as u16 + 1);
+        limits[i] = limit_block::limit_from(m, file, i as u16 + 1);
         i = i + 1;
     }
     limits

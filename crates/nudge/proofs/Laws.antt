@@ -7,6 +7,7 @@ use native.Mathlib.Numerals.{add-one}
 use borrow.Author.Tests.{eqb-false, leb-false}
 use lib.Dec.{leb, leb·suc-suc}
 use Rattle.rules.specs.Words.{bit}
+use Rattle.rules.proofs.Laws.{positive}
 use Rattle.rules.specs.Programming.{leavesRange, nudgedIf, resultBad, nudgeSetpointBad}
 use Rattle.rules.specs.declared.Limit.{Limit}
 use Rattle.rules.specs.Switches.{usedPair, onSetpoint, offSetpoint}
@@ -14,9 +15,6 @@ use Rattle.rules.specs.Switches.{usedPair, onSetpoint, offSetpoint}
 -- one more on both sides of a test
 pub leb-both : (a b : ℕ) → leb a b ≡ leb (a + 1) (b + 1)
 leb-both a b = rw (add-one a, add-one b) (sym (leb·suc-suc a b))
-
-positive : (n : ℕ) → (n ≡ 0 → ⊥) → 0 < n
-positive n k = omega arith
 
 -- a setpoint that does not leave the range: there is room below it, or above
 pub room-below : (sf x : ℕ) → leavesRange sf true x ≡ false → 0 < x

@@ -80,7 +80,7 @@ fn fails(top: u16, s: Switch, on: u16, off: u16) -> bool
         Switch::Normal => false,
         Switch::Pulse(q, k) => {
             let r = switch::ahead(top, on, off);
-            switch::pulse_bad(false, r, q, k) | switch::pulses_touch(top, r, q, k)
+            limit_block::pulse_bad(false, r, q, k) | limit_block::pulses_touch(top, r, q, k)
         }
         Switch::Timed(_) => false,
     }

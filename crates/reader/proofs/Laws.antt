@@ -5,10 +5,8 @@ use mathlib.Core.Path.{_≡_, refl}
 use native.Mathlib.Omega.{arith}
 use borrow.Author.Tests.{ltb-false, eqb-true, eqb-false}
 use lib.Dec.{ltb, eqb}
+use Rattle.rules.proofs.Laws.{positive}
 use Rattle.rules.specs.Programming.{numberOf, readerRefusal}
-
-positive : (n : ℕ) → (n ≡ 0 → ⊥) → 0 < n
-positive n k = omega arith
 
 -- what is known where the reader does not refuse
 pub record Readable (length0 length1 : ℕ) (group : Bool) (n : ℕ) : Type 0 where

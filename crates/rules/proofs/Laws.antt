@@ -6,12 +6,21 @@ use mathlib.Core.Path.{_≡_, refl, sym, ap, _∙_}
 use mathlib.Core.List.{List, [], _∷_}
 use native.Mathlib.Nat.{mod-lt, mod-eq-of-lt, mod-mod, add-mod-mod, mod-add-mod, add-mod-right, add-mul-mod-self-right, div-add-mod'}
 use native.Mathlib.Omega.{arith}
-use borrow.Author.Tests.{ltb-true, ltb-false}
+use borrow.Author.Tests.{ltb-true, ltb-false, le-ltb}
 use lib.ListN.{length, set, length-set}
 use lib.Dec.{ltb, leb}
-use lib.IntN.{ℤ, pos, negsuc, subℕ}
+use lib.IntN.{ℤ, pos, negsuc, subℕ, _-ℤ_}
 use Rattle.rules.specs.Words.{modulo, storedAt}
 use Rattle.rules.specs.Groups.{ahead}
+
+-- a number that is not 0
+pub positive : (n : ℕ) → (n ≡ 0 → ⊥) → 0 < n
+positive n k = omega arith
+
+-- a − b of two naturals
+pub minus : (a b : ℕ) → pos a -ℤ pos b ≡ subℕ a b
+minus a zero = rw (le-ltb a 0 (omega arith)) (ap pos (omega arith))
+minus a (suc b) = refl
 
 -- a remainder stays below its divisor
 pub mod-below : (x t : ℕ) → x % (t + 1) < t + 1

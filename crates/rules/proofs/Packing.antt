@@ -2,6 +2,7 @@
 -- Assumes nothing.
 use Prim.Native.Nat.{ℕ, zero, suc, _+_, _*_, _/_, _%_, _^_, _≤_, _<_}
 use mathlib.Core.Bool.{Bool, true, false}
+use mathlib.Core.List.{List, [], _∷_, _++_}
 use mathlib.Core.Path.{_≡_, refl, ap, _∙_}
 use native.Mathlib.Nat.{pow-suc, mul-comm, div-div-eq-div-mul}
 use native.Mathlib.Omega.{arith}
@@ -55,3 +56,13 @@ module _ {A : Type 0} where
   -- of a table from 0 on
   pub getD-table-0 : (n : ℕ) (f : ℕ → A) (d : A) (k : ℕ) → k < n → getD (table n 0 f) k d ≡ f k
   getD-table-0 n f d k h = getD-table n 0 f d k h ∙ ap f (omega arith)
+
+  -- one element more at the end of a table
+  pub table-more : (n i : ℕ) (f : ℕ → A) → table n i f ++ (f (i + n) ∷ []) ≡ table (suc n) i f
+  unfolding table
+  table-more zero i f =
+      let e : i + 0 ≡ i = omega arith in
+      rw e
+  table-more (suc n) i f =
+      let e : i + suc n ≡ i + 1 + n = omega arith in
+      rw e (ap (λ (ys : List A). f i ∷ ys) (table-more n (i + 1) f))

@@ -1,6 +1,6 @@
 -- The card's windows: its biased sums in 32 bits are 01's signed sums of movements, and never run over.
 -- Assumes nothing.
-use Prim.Native.Nat.{ℕ, zero, suc, _+_, _-_, _*_, _%_, _^_, _≤_, _<_}
+use Prim.Native.Nat.{ℕ, suc, _+_, _-_, _*_, _%_, _^_, _≤_, _<_}
 use mathlib.Core.Path.{_≡_, refl, sym, ap, _∙_}
 use mathlib.Core.Bool.{Bool, true, false, cond}
 use mathlib.Core.List.{List, [], _∷_}
@@ -19,13 +19,9 @@ use Rattle.rules.specs.Words.{roundHalfUp}
 use Rattle.rules.specs.Motion.{movement, windowSteps, windowTime, shortSteps, rpmOf, travelValue}
 use Rattle.rules.specs.Card.{biasedMovement, updates, windowSum, windowAfter, travelOf, travelAfter, rpmAfter, speedAfter, freshWindow, freshSpeed}
 use Rattle.rules.specs.History.{movementFrom, movements, total, windowTotal, cOf, rpmAt, updateAt}
-use Rattle.rules.proofs.Laws.{modulo-below}
+use Rattle.rules.proofs.Laws.{modulo-below, minus}
 
 -- ---- Signed sums
-
-minus : (a b : ℕ) → pos a -ℤ pos b ≡ subℕ a b
-minus a zero = rw (le-ltb a 0 (omega arith)) (ap pos (omega arith))
-minus a (suc b) = refl
 
 exchange : (a b c d : ℤ) → (a +ℤ b) +ℤ (c +ℤ d) ≡ (a +ℤ c) +ℤ (b +ℤ d)
 exchange a b c d =

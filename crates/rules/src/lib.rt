@@ -2,6 +2,7 @@
 // has a `requires`. The rules over them are in specs/; the only code here is power-up, with the defaults as constants of the module type.
 
 ghost use mathlib.Core.Path.{_≡_};
+ghost use Rattle.rules.specs.Motion.{realCount};
 ghost use Rattle.rules.specs.Programming.{defaultSetup, noPrograms};
 ghost use Rattle.rules.specs.Card.{moduleStart, freshModule, poweredUp};
 
@@ -22,6 +23,19 @@ pub enum Model {
     M8511,
     M8512,
     M8513,
+}
+
+impl Model {
+    // Its real inputs, and its real outputs.
+    pub fn real_count(m: Model) -> u16
+        ensures { λ r. ⌜ r ≡ realCount m ⌝ }
+    {
+        match m {
+            Model::M8511 => 0,
+            Model::M8512 => 8,
+            Model::M8513 => 16,
+        }
+    }
 }
 
 // The type of an input or output.

@@ -5,14 +5,13 @@ use mathlib.Core.Bool.{Bool, true, false, cond, xor}
 use mathlib.Core.Path.{_≡_, refl, sym, ap, _∙_}
 use native.Mathlib.Nat.{zero-div, mul-zero, zero-mul, zero-mod, mod-mod, add-mod-mod}
 use native.Mathlib.Omega.{arith}
-use borrow.Author.Tests.{le-ltb}
-use lib.IntN.{ℤ, pos, negsuc, negℤ, subℕ, _-ℤ_, _*ℤ_}
+use lib.IntN.{ℤ, pos, negsuc, negℤ, _-ℤ_, _*ℤ_}
 use lib.Signed.{quotZ}
 use Rattle.rules.specs.Words.{modulo}
 use Rattle.rules.specs.Motion.{signed}
 use Rattle.rules.specs.Groups.{ahead}
 use Rattle.rules.specs.Switches.{advanceShift, moved}
-use Rattle.rules.proofs.Laws.{modulo-natural, ahead-natural, ahead-up}
+use Rattle.rules.proofs.Laws.{minus, modulo-natural, ahead-natural, ahead-up}
 use Rattle.switch.specs.Parts.{shiftCounts}
 
 -- 0 has one sign
@@ -49,14 +48,10 @@ shift-signed sf x y a c =
     ∙ ap (λ (z : ℤ). quotZ z (pos 245760)) (product (xor x y) false (a * c) sf ∙ ap (λ (b : Bool). signed b (a * c * sf)) (unsigned (xor x y)))
     ∙ quotient (xor x y) (a * c * sf) 245760
 
-difference : (a b : ℕ) → pos a -ℤ pos b ≡ subℕ a b
-difference a zero = let e : a + 0 ≡ a - 0 = omega arith in rw (le-ltb a 0 (omega arith), e)
-difference a (suc b) = refl
-
 behind : (t n : ℕ) → modulo (pos 0 -ℤ pos n) (t + 1) ≡ (t + 1 - n % (t + 1)) % (t + 1)
 behind t n =
     let e : 0 + (t + 1 - n % (t + 1)) ≡ t + 1 - n % (t + 1) = omega arith in
-    rw (difference 0 n, modulo-natural 0 n t, e)
+    rw (minus 0 n, modulo-natural 0 n t, e)
 
 reduced-up : (t x n : ℕ) → modulo (pos x -ℤ negsuc n) (t + 1) ≡ (x + modulo (pos 0 -ℤ negsuc n) (t + 1)) % (t + 1)
 unfolding modulo
@@ -64,7 +59,7 @@ reduced-up t x n = let e : 0 + suc n ≡ suc n = omega arith in rw e (sym (add-m
 
 reduced : (t x : ℕ) (z : ℤ) → modulo (pos x -ℤ z) (t + 1) ≡ (x + modulo (pos 0 -ℤ z) (t + 1)) % (t + 1)
 reduced t x (pos n) =
-    rw (behind t n, difference x n, modulo-natural x n t) (sym (add-mod-mod x (t + 1 - n % (t + 1)) (t + 1)))
+    rw (behind t n, minus x n, modulo-natural x n t) (sym (add-mod-mod x (t + 1 - n % (t + 1)) (t + 1)))
 reduced t x (negsuc n) = reduced-up t x n
 
 -- every setpoint moves by what 0 moves

@@ -1,12 +1,11 @@
 -- Laws of a test over a range of numbers: one turn of a loop, a hit, none, two tests that agree.
 -- Assumes nothing.
-use Prim.Native.Nat.{ℕ, zero, suc, _+_, _-_, _≤_, _<_}
+use Prim.Native.Nat.{ℕ, zero, suc, _+_, _-_, _<_}
 use mathlib.Core.Bool.{Bool, true, false, _&&_, _||_}
 use mathlib.Core.List.{List, _∷_}
 use mathlib.Core.Path.{_≡_, refl, sym, ap, _∙_}
 use native.Mathlib.Numerals.{add-one}
 use native.Mathlib.Omega.{arith}
-use mir.Val.{boolByte}
 use lib.ListN.{length, drop, set}
 use lib.Seq.{lt-length-set, drop-cons, getD-set-same, drop-set-lt}
 use Rattle.rules.specs.Words.{digit, someOf, eachOf, countOf, table}
@@ -41,35 +40,6 @@ each-passed n i f whole h so e = so ∙ each-turn n i f h ∙ rw e
 pub count-turn : (n i : ℕ) (f : ℕ → Bool) → i < n → countOf (n - i) i f ≡ digit (f i) + countOf (n - (i + 1)) (i + 1) f
 unfolding countOf
 count-turn n i f h = rw (one-more n i h)
-
--- a truth value as a number
-pub byte-digit : (b : Bool) → boolByte b ≡ digit b
-byte-digit true = refl
-byte-digit false = refl
-
-pub byte-small : (b : Bool) → boolByte b ≤ 1
-byte-small true = omega arith
-byte-small false = omega arith
-
-or-true : (b : Bool) → (b || true) ≡ true
-or-true true = refl
-or-true false = refl
-
-later : (i d : ℕ) → i + 1 + d ≡ i + suc d
-later i d = omega arith
-
-pub some-hit : (n i d : ℕ) (f : ℕ → Bool) → d < n → f (i + d) ≡ true → someOf n i f ≡ true
-unfolding someOf
-some-hit zero i d f h e = absurd (omega arith)
-some-hit (suc n) i zero f h e = let z : i + 0 ≡ i = omega arith in rw (rw z at e)
-some-hit (suc n) i (suc d) f h e = rw (some-hit n (i + 1) d f (omega arith) (ap f (later i d) ∙ e)) (or-true (f i))
-
-pub some-none : (n i : ℕ) (f : ℕ → Bool) → ((d : ℕ) → d < n → f (i + d) ≡ false) → someOf n i f ≡ false
-unfolding someOf
-some-none zero i f h = refl
-some-none (suc n) i f h =
-    let z : i + 0 ≡ i = omega arith in
-    rw (rw z at (h 0 (omega arith))) (some-none n (i + 1) f (λ d l. ap f (later i d) ∙ h (suc d) (omega arith)))
 
 pub some-same : (n i : ℕ) (f g : ℕ → Bool) → ((k : ℕ) → f k ≡ g k) → someOf n i f ≡ someOf n i g
 unfolding someOf

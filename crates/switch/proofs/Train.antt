@@ -9,7 +9,7 @@ use borrow.Author.Tests.{eqb-true, leb-true, ltb-false, le-ltb, le-leb}
 use lib.Dec.{ltb, leb, eqb}
 use Rattle.rules.specs.Switches.{pulseStart, pulseOn}
 use Rattle.switch.specs.Parts.{lastPulse}
-use Rattle.switch.proofs.Ranges.{some-hit, some-none}
+use Rattle.word.proofs.Laws.{some-one, some-none}
 
 -- a quotient does not fall with its dividend
 div-monotone : (d : ℕ) {m n : ℕ} → m ≤ n → m / d ≤ n / d
@@ -73,9 +73,9 @@ module _ (r q k at : ℕ) (some : 0 < q) where
 
   decided : (b : Bool) → ltb at (pulseStart r q k (lastPulse r q k at) + k) ≡ b → pulseOn r q k at ≡ b
   unfolding pulseOn
-  decided true e = some-hit q 0 (lastPulse r q k at) _ within
+  decided true e = some-one q 0 (lastPulse r q k at) _ within
       (rw (zero-add (lastPulse r q k at), le-leb (pulseStart r q k (lastPulse r q k at)) at begun) e)
-  decided false e = some-none q 0 _ (λ j h. rw (zero-add j) (dark e j h (leb (pulseStart r q k j) at) refl))
+  decided false e = some-none q 0 _ (λ j a h. dark e j (omega arith) (leb (pulseStart r q k j) at) refl)
 
   -- the last pulse that has started decides
   pub pulse-decided : pulseOn r q k at ≡ ltb at (pulseStart r q k (lastPulse r q k at) + k)

@@ -24,6 +24,11 @@ pub byte-digit : (b : Bool) → boolByte b ≡ digit b
 byte-digit true = refl
 byte-digit false = refl
 
+-- `b as u16` is at most 1
+pub byte-small : (b : Bool) → boolByte b ≤ 1
+byte-small true = omega arith
+byte-small false = omega arith
+
 digit-bit : (b : Bool) → eqb (digit b) 1 ≡ b
 digit-bit true = refl
 digit-bit false = refl

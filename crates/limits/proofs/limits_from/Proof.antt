@@ -8,7 +8,7 @@ use native.Mathlib.Numerals.{add-one}
 use native.Mathlib.Nat.{add-comm}
 use Rattle.rules.specs.Words.{table}
 use Rattle.rules.specs.Programming.{limitFrom}
-use Rattle.group.proofs.Laws.{table-more}
+use Rattle.rules.proofs.Packing.{table-more}
 use borrow.Author.Needs.{needs}
 use Rattle.limits.proofs.limits_from.Statement.{statement}
 use Rattle.limits.proofs.limits_from.Tie as tie

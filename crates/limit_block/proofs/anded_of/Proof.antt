@@ -1,0 +1,16 @@
+-- `limit_block::anded_of` meets its contract: by the two tests. Assumes nothing.
+use borrow.Author.Tests.{eq-eqb, ne-eqb}
+use Rattle.limit_block.proofs.anded_of.Statement.{statement}
+use Rattle.limit_block.proofs.anded_of.Tie as tie
+
+returns : tie.Need-returns
+returns c = simp (eq-eqb _ _ (c .if1 .taken))
+
+returns-2 : tie.Need-returns-2
+returns-2 c = simp (ne-eqb _ _ (c .before .if1 .left), eq-eqb _ _ (c .if2 .taken))
+
+returns-3 : tie.Need-returns-3
+returns-3 c = simp (ne-eqb _ _ (c .before .if1 .left), ne-eqb _ _ (c .if2 .left))
+
+pub anded-of-spec : {M : Type 1} → statement M
+anded-of-spec = tie.close (tie.spec returns returns-2 returns-3)

@@ -28,26 +28,6 @@ pub extern "C" fn chimneyrye_power_up(m: &mut PlainModule, number: u16) -> u16
     r.number
 }
 
-// One step, on the module where it sits.
-#[no_mangle]
-pub extern "C" fn chimneyrye_step(m: &mut PlainModule, s: Sample) -> Answer
-    ensures { λ r. ⌜ (moduleOf (now (m .exit)) ≡ (card.stepCall (moduleOf (now (m .entry))) s) .card) × (r ≡ (card.stepCall (moduleOf (now (m .entry))) s) .answer) ⌝ }
-{
-    let r = stepped(*m, s);
-    *m = r.card;
-    r.answer
-}
-
-// The nudge cycle.
-#[no_mangle]
-pub extern "C" fn chimneyrye_nudge(m: &mut PlainModule, word: u16) -> u16
-    ensures { λ r. ⌜ (moduleOf (now (m .exit)) ≡ (card.nudgeCall (moduleOf (now (m .entry))) word) .card) × (r ≡ answerNumber ((card.nudgeCall (moduleOf (now (m .entry))) word) .outcome)) ⌝ }
-{
-    let r = nudged(*m, word);
-    *m = r.card;
-    r.number
-}
-
 // The setup cycle, on a lent M0 file.
 #[no_mangle]
 pub extern "C" fn chimneyrye_setup(m: &mut PlainModule, file: &mut [u16]) -> u16
@@ -76,4 +56,24 @@ pub extern "C" fn chimneyrye_limit(m: &mut PlainModule, file: &mut [u16]) -> u16
     let r = limited(*m, file);
     *m = r.card;
     r.number
+}
+
+// The nudge cycle.
+#[no_mangle]
+pub extern "C" fn chimneyrye_nudge(m: &mut PlainModule, word: u16) -> u16
+    ensures { λ r. ⌜ (moduleOf (now (m .exit)) ≡ (card.nudgeCall (moduleOf (now (m .entry))) word) .card) × (r ≡ answerNumber ((card.nudgeCall (moduleOf (now (m .entry))) word) .outcome)) ⌝ }
+{
+    let r = nudged(*m, word);
+    *m = r.card;
+    r.number
+}
+
+// One step, on the module where it sits.
+#[no_mangle]
+pub extern "C" fn chimneyrye_step(m: &mut PlainModule, s: Sample) -> Answer
+    ensures { λ r. ⌜ (moduleOf (now (m .exit)) ≡ (card.stepCall (moduleOf (now (m .entry))) s) .card) × (r ≡ (card.stepCall (moduleOf (now (m .entry))) s) .answer) ⌝ }
+{
+    let r = stepped(*m, s);
+    *m = r.card;
+    r.answer
 }

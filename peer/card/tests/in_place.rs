@@ -66,8 +66,8 @@ fn cycles_on_a_lent_module_answer_as_peer_does() {
     compare((1..=200).map(|seed| (seed, cycle_list(seed))));
 }
 
-/// Every bit pattern of the numbers is harmless: a module of random numbers
-/// is stepped and programmed, and keeps within its place.
+/// A module of numbers that no call writes is stepped and programmed, and
+/// nothing beside it is touched.
 #[test]
 fn any_numbers_in_the_module_are_harmless() {
     let mut place = place();

@@ -7,9 +7,11 @@ ghost use Rattle.rules.specs.Programming.{defaultSetup, noPrograms};
 ghost use Rattle.rules.specs.Card.{moduleStart, freshModule, poweredUp};
 
 // Machine Position, in counts of a turn.
+#[repr(C)]
 pub struct MachinePosition(pub u16);
 
 // Group Position, in counts of a turn.
+#[repr(C)]
 pub struct GroupPosition(pub u16);
 
 // The position that a switch reads: Group Position in Group Mode, Machine Position in Independent Mode.
@@ -63,6 +65,7 @@ pub enum Mode {
 }
 
 // A motion detector's setpoints, in rpm.
+#[repr(C)]
 pub struct Detector {
     pub low: u16,
     pub high: u16,
@@ -91,6 +94,7 @@ pub struct Setup {
 }
 
 // An ON and an OFF setpoint.
+#[repr(C)]
 pub struct Pair {
     pub on: u16,
     pub off: u16,
@@ -123,6 +127,7 @@ pub enum Anded {
 }
 
 // A signed advance in tenths of a millisecond, as a sign and a magnitude.
+#[repr(C)]
 pub struct Advance {
     pub negative: bool,
     pub tenths: u16,
@@ -147,6 +152,7 @@ pub struct Programming {
 }
 
 // SUErr, GPErr, LSErr, I/DNum and I/DSet.
+#[repr(C)]
 pub struct Errors {
     pub setup: bool,
     pub group: bool,
@@ -155,6 +161,7 @@ pub struct Errors {
     pub setpoint: bool,
 }
 
+#[repr(C)]
 pub struct Acknowledges {
     pub setup: bool,
     pub group: bool,
@@ -180,12 +187,14 @@ pub enum Last {
 }
 
 // A window of movements: the steps since its last update, and the sum of their movements, 512 added to each.
+#[repr(C)]
 pub struct Window {
     pub steps: u16,
     pub sum: u32,
 }
 
 // A signed count, as a sign and a magnitude.
+#[repr(C)]
 pub struct Travel {
     pub negative: bool,
     pub counts: u32,
@@ -202,6 +211,7 @@ pub struct Speed {
 
 // A group since its start: its inputs' levels at the last step, whether the dwell held at its end, the shift of Modes 1 and 2, whether an edge was
 // taken, whether a dwell has begun since the last taken one, whether a qualifying step came since the dwell began, and openness in Modes 2, 4 and 5.
+#[repr(C)]
 pub struct GroupState {
     pub level: bool,
     pub first: bool,
@@ -214,6 +224,7 @@ pub struct GroupState {
 }
 
 // A timed switch: whether its pair held at the last step, and for how many steps from there, that one included, it is on if it goes on holding.
+#[repr(C)]
 pub struct TimedState {
     pub held: bool,
     pub left: u32,
@@ -236,6 +247,7 @@ pub struct Module {
 }
 
 // The nine words that a step takes.
+#[repr(C)]
 pub struct Sample {
     pub raw: u16,
     pub currents: u16,
@@ -300,6 +312,7 @@ pub struct Programmed {
 }
 
 // What a step answers. `refused` is set where it was answered 11.
+#[repr(C)]
 pub struct Answer {
     pub refused: bool,
     pub position: MachinePosition,

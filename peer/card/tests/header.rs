@@ -1,0 +1,77 @@
+//! include/chimneyrye.h: C lays its structs out as the archive does, and a loop
+//! in C runs.
+
+use std::path::{Path, PathBuf};
+use std::process::Command;
+
+use card_loop::layout::{
+    Acknowledges, Advance, Answer, Configuration, Detector, Errors, Group, GroupState, Last, Limit,
+    Module, Pair, Programming, Sample, Scalars, Setup, Speed, State, Switch, TimedState, Travel,
+    Window,
+};
+
+/// A C program of this folder, compiled with the header and the archive, and
+/// what it prints.
+fn printed(name: &str) -> String {
+    let package = Path::new(env!("CARGO_MANIFEST_DIR"));
+    let program: PathBuf = Path::new(env!("CARGO_TARGET_TMPDIR")).join(name);
+    let compiled = Command::new("cc")
+        .args(["-std=c11", "-Wall", "-Wextra", "-Werror", "-pedantic", "-I"])
+        .arg(package.join("../../crates/card/include"))
+        .arg(package.join(format!("tests/c/{name}.c")))
+        .arg(package.join("../../target/staticlib/libcard.a"))
+        .arg("-o")
+        .arg(&program)
+        .status()
+        .expect("cc runs");
+    assert!(compiled.success());
+    let output = Command::new(&program).output().expect("program runs");
+    assert!(output.status.success());
+    String::from_utf8(output.stdout).expect("text")
+}
+
+#[test]
+fn c_lays_the_structs_out_as_rust_does() {
+    let ours: String = [
+        ("detector", Detector::places()),
+        ("scalars", Scalars::places()),
+        ("programmed_setup", Setup::places()),
+        ("pair", Pair::places()),
+        ("programmed_group", Group::places()),
+        ("switch", Switch::places()),
+        ("advance", Advance::places()),
+        ("programmed_limit", Limit::places()),
+        ("programming", Programming::places()),
+        ("errors", Errors::places()),
+        ("acknowledges", Acknowledges::places()),
+        ("configuration", Configuration::places()),
+        ("last", Last::places()),
+        ("window", Window::places()),
+        ("travel", Travel::places()),
+        ("speed", Speed::places()),
+        ("group_state", GroupState::places()),
+        ("timed_state", TimedState::places()),
+        ("state", State::places()),
+        ("module", Module::places()),
+        ("sample", Sample::places()),
+        ("answer", Answer::places()),
+    ]
+    .iter()
+    .map(|(name, places)| format!("{name} {places}\n"))
+    .collect();
+    assert_eq!(printed("places"), ours);
+}
+
+/// The comments of card.c say why each line is what it is.
+#[test]
+fn a_loop_in_c_steps_its_module_where_it_sits() {
+    assert_eq!(
+        printed("card"),
+        "power 0\nsetup 0\ngroup 0\nlimit 0\n\
+         step 0 position 0 real 0001\n\
+         step 0 position 100 real 0000\n\
+         step 0 position 200 real 0000\n\
+         step 11 position 200 real 0000\n\
+         fault 1\n"
+    );
+}

@@ -1,10 +1,12 @@
 -- Laws of an output before the forces: what its switch's type leaves of the rule.
 -- Assumes nothing.
-use Prim.Native.Nat.{ℕ, _+_}
-use mathlib.Core.Bool.{Bool, true, false, cond, _&&_, true≢false, false≢true}
-use mathlib.Core.Path.{_≡_, refl}
+use Prim.Native.Nat.{ℕ, zero, suc, _+_}
+use mathlib.Core.Bool.{Bool, true, false, cond, _&&_, _||_, true≢false, false≢true}
+use mathlib.Core.Path.{_≡_, refl, sym, _∙_}
+use native.Mathlib.Omega.{arith}
 use lib.Dec.{ltb}
 use lib.IntN.{ℤ}
+use borrow.Author.Tests.{lt-ltb}
 use Rattle.rules.specs.declared.Position.{Position}
 use Rattle.rules.specs.declared.Switch.{Switch}
 use Rattle.rules.specs.declared.Switch.the-variants.{Unprogrammed, Normal, Pulse, Timed}
@@ -62,3 +64,12 @@ module _ (w : Reading) (l : Limit) (p : Position) (group : Bool) (n : ℕ) (x : 
   pub no-output : isProgrammed (l .switch) ≡ false → outputIn w l p group n x ≡ record { on = false; timed = freshTimed }
   unfolding outputIn onIn timedIn switchHolds timedAfter
   no-output e = rw (unprogrammed (l .switch) e)
+
+-- a timed switch that neither held nor has time left is as at a start
+rest-by : (held : Bool) (left : ℕ) → (held || ltb 0 left) ≡ false → record { held = held; left = left } ≡ freshTimed
+rest-by true left e = absurd (true≢false e)
+rest-by false zero e = refl
+rest-by false (suc n) e = absurd (true≢false (sym (lt-ltb 0 (suc n) (omega arith)) ∙ e))
+
+pub at-rest : (x : TimedState) → (x .held || ltb 0 (x .left)) ≡ false → x ≡ freshTimed
+at-rest x e = rest-by (x .held) (x .left) e

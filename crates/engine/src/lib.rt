@@ -3,6 +3,7 @@
 ghost use mathlib.Core.Path.{_≡_};
 ghost use mathlib.Core.Bool.{false, cond, _&&_};
 ghost use lib.Dec.{ltb};
+ghost use lib.ListN.{replicate};
 ghost use Rattle.rules.specs.Words as words;
 ghost use Rattle.rules.specs.Motion as motion;
 ghost use Rattle.rules.specs.Switches as switches;
@@ -74,6 +75,14 @@ struct OutputsAfter {
 struct OutputWords {
     pub real: u16,
     pub virtuals: u16,
+}
+
+// What a step changes of the module, and what it answers.
+struct Change {
+    pub state: State,
+    pub raw: u16,
+    pub fault: bool,
+    pub answer: Answer,
 }
 
 impl OutputAfter {
@@ -484,8 +493,8 @@ fn state_after(
 }
 
 // A step that is not answered 11.
-fn sound_step(m: Module, s: Sample) -> Stepped
-    ensures { λ r. ⌜ r ≡ calls.soundCall m s ⌝ }
+fn sound_step(m: Module, s: Sample) -> Change
+    ensures { λ r. ⌜ r ≡ calls.soundChange m s ⌝ }
 {
     let g = m.configuration;
     let model = g.model;
@@ -506,38 +515,63 @@ fn sound_step(m: Module, s: Sample) -> Stepped
     let renewed = o.timed;
     let state = state_after(speed, w.machine, gs, renewed, both.virtuals);
     let answer = sound_answer(u, w, m.state.virtuals, both);
-    let mut n = m;
-    n.configuration.raw = s.raw;
-    n.state = state;
-    Stepped {
-        card: n,
+    Change {
+        state: state,
+        raw: s.raw,
+        fault: g.fault,
         answer: answer,
     }
 }
 
-// A step that is answered 11: it latches the fault, and is a module start.
-fn fault_step(m: Module, s: Sample) -> Stepped
-    ensures { λ r. ⌜ r ≡ calls.faultCall m s ⌝ }
+// No timed switch runs. One that is at rest is not written again: as a loop of equal stores this would be unrolled, and the compiler would then copy
+// the whole array field by field in every step.
+fn timed_at_rest(xs: [TimedState; 32]) -> [TimedState; 32]
+    ensures { λ r. ⌜ r ≡ replicate 32 card.freshTimed ⌝ }
+{
+    let mut timed = xs;
+    let mut left: usize = 32;
+    while 0 < left {
+        left = left - 1;
+        let x = timed[left];
+        if x.held | (0 < x.left) {
+            timed[left] = TimedState::FRESH;
+        }
+    }
+    timed
+}
+
+// A step that is answered 11: it latches the fault, and is a module start. The state is that of `Module::started`.
+fn fault_step(m: Module, s: Sample) -> Change
+    ensures { λ r. ⌜ r ≡ calls.faultChange m s ⌝ }
 {
     let g = m.configuration;
     let model = g.model;
     let u = m.configuration.programming.setup;
     let last = m.state.position;
+    let timed = m.state.timed;
     let both = output_words(model, s, 0);
     let answer = fault_answer(u, last, m.state.virtuals, both);
-    let state = Module::started(last, both.virtuals);
-    let mut n = m;
-    n.configuration.fault = true;
-    n.state = state;
-    Stepped {
-        card: n,
+    let at_rest = timed_at_rest(timed);
+    let group = GroupState::FRESH;
+    let state = State {
+        speed: Speed::FRESH,
+        groups: [group; 6],
+        positions: [GroupPosition(0); 6],
+        timed: at_rest,
+        position: last,
+        virtuals: both.virtuals,
+    };
+    Change {
+        state: state,
+        raw: g.raw,
+        fault: true,
         answer: answer,
     }
 }
 
-// One step of the card.
-pub fn step(m: Module, s: Sample) -> Stepped
-    ensures { λ r. ⌜ r ≡ card.stepCall m s ⌝ }
+// What a step changes.
+fn change_of(m: Module, s: Sample) -> Change
+    ensures { λ r. ⌜ calls.changed m r ≡ card.stepCall m s ⌝ }
 {
     if m.configuration.fault {
         return fault_step(m, s);
@@ -546,6 +580,23 @@ pub fn step(m: Module, s: Sample) -> Stepped
         return fault_step(m, s);
     }
     sound_step(m, s)
+}
+
+// One step of the card. What is not changed is the same in either case, so that it need not be copied.
+pub fn step(m: Module, s: Sample) -> Stepped
+    ensures { λ r. ⌜ r ≡ card.stepCall m s ⌝ }
+{
+    let c = change_of(m, s);
+    let state = c.state;
+    let answer = c.answer;
+    let mut n = m;
+    n.configuration.raw = c.raw;
+    n.configuration.fault = c.fault;
+    n.state = state;
+    Stepped {
+        card: n,
+        answer: answer,
+    }
 }
 
 // The same step on a module that is lent, changed where it sits.

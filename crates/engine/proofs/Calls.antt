@@ -22,9 +22,9 @@ use Rattle.rules.specs.Programming.{sound, stepConfiguration}
 use Rattle.rules.specs.Card.{noPosition, eventAt, groupsAt, positionAt, openAt, timedHolds, timedNow, conditionsAt, outputAt, soundState, stepState, stepAnswer, stepCall}
 use Rattle.word.proofs.Laws.{packed-bit, packed-same, bit-past}
 use Rattle.motion.proofs.Laws.{level-is}
-use Rattle.engine.specs.declared.GroupAfter.{GroupAfter}
-use Rattle.engine.specs.declared.OutputAfter.{OutputAfter}
-use Rattle.engine.specs.declared.OutputWords.{OutputWords}
+use Rattle.engine.specs.declared.groups.GroupAfter.{GroupAfter}
+use Rattle.engine.specs.declared.outputs.OutputAfter.{OutputAfter}
+use Rattle.engine.specs.declared.answer.OutputWords.{OutputWords}
 use Rattle.engine.specs.Groups.{readingIn, readingAt, eventIn, groupIn, groupOf, groupsIn}
 use Rattle.engine.specs.Outputs.{positionIn, openIn, admittedIn, enabledIn, detectorIn, passesIn, onIn, timedIn, outputIn, outputOf, outputsIn, wordsIn}
 use Rattle.engine.specs.Calls.{soundAnswerIn, faultAnswerIn, stateIn, outputsOf, wordsOf, soundChange, faultChange, changed}

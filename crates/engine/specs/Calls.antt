@@ -16,10 +16,10 @@ use Rattle.rules.specs.Motion.{tachReading, tachOverflow}
 use Rattle.rules.specs.Switches.{changedCount}
 use Rattle.rules.specs.Programming.{withRaw, withFault}
 use Rattle.rules.specs.Card.{moduleStart, speedAt}
-use Rattle.engine.specs.declared.Reading.{Reading}
-use Rattle.engine.specs.declared.GroupsAfter.{GroupsAfter}
-use Rattle.engine.specs.declared.OutputsAfter.{OutputsAfter}
-use Rattle.engine.specs.declared.OutputWords.{OutputWords}
+use Rattle.engine.specs.declared.reading.Reading.{Reading}
+use Rattle.engine.specs.declared.groups.GroupsAfter.{GroupsAfter}
+use Rattle.engine.specs.declared.outputs.OutputsAfter.{OutputsAfter}
+use Rattle.engine.specs.declared.answer.OutputWords.{OutputWords}
 use Rattle.engine.specs.declared.Change.{Change}
 use Rattle.engine.specs.Groups.{readingAt, groupsIn}
 use Rattle.engine.specs.Outputs.{outputsIn, wordsIn}

@@ -7,7 +7,7 @@ use Rattle.rules.specs.declared.TimedState.{TimedState}
 use Rattle.rules.specs.Card.{freshTimed}
 use Rattle.rules.specs.Words.{table}
 use Rattle.engine.proofs.Lists.{FilledDown, down-none, down-more, down-kept, down-all}
-use Rattle.engine.proofs.Outputs.{at-rest}
+use Rattle.engine.proofs.OutputLaws.{at-rest}
 use Rattle.engine.proofs.timed_at_rest.Statement.{statement}
 use Rattle.engine.proofs.timed_at_rest.Tie as tie
 

@@ -23,12 +23,12 @@ use Rattle.rules.specs.Card.{noPosition, eventAt, groupsAt, positionAt, openAt,
 use Rattle.rules.proofs.Packing.{packed-bit, packed-same}
 use Rattle.word.proofs.Laws.{bit-past}
 use Rattle.motion.proofs.Laws.{level-is}
-use Rattle.engine.specs.declared.GroupAfter.{GroupAfter}
-use Rattle.engine.specs.declared.OutputAfter.{OutputAfter}
-use Rattle.engine.specs.declared.OutputWords.{OutputWords}
+use Rattle.engine.specs.declared.groups.GroupAfter.{GroupAfter}
+use Rattle.engine.specs.declared.outputs.OutputAfter.{OutputAfter}
+use Rattle.engine.specs.declared.answer.OutputWords.{OutputWords}
 use Rattle.engine.specs.Groups.{readingIn, readingAt, eventIn, groupIn, groupOf, groupsIn}
 use Rattle.engine.specs.Outputs.{positionIn, openIn, admittedIn, enabledIn, detectorIn, passesIn, onIn, timedIn, outputIn, outputOf, outputsIn, wordsIn}
-use Rattle.engine.specs.Calls.{soundAnswerIn, faultAnswerIn, stateIn, outputsOf, wordsOf, soundCall, faultCall}
+use Rattle.engine.specs.Calls.{soundAnswerIn, faultAnswerIn, stateIn, outputsOf, wordsOf, soundChange, faultChange, changed}
 use Rattle.engine.proofs.Lists.{table-same, table-anywhere}
 
 module _ (g : Configuration) (x : State) (s : Sample) where
@@ -134,8 +134,8 @@ module _ (m : Module) (s : Sample) where
         (λ k l. packed-bit 32 0 k rule l ∙ ap rule (zero-add k) ∙ sym (ap (λ (b : Bool). b && rule k) h)))
 
     -- a step that is not answered 11
-    pub sound-call : sound g s ≡ true → soundCall m s ≡ stepCall m s
-    unfolding soundCall stepCall stepConfiguration stepState stepAnswer soundState soundAnswer soundAnswerIn stateIn readingIn machineAt
+    pub sound-call : sound g s ≡ true → changed m (soundChange m s) ≡ stepCall m s
+    unfolding changed soundChange stepCall stepConfiguration stepState stepAnswer soundState soundAnswer soundAnswerIn stateIn readingIn machineAt
     sound-call h = rw (words-sound h, outputs-at, groups-at g x s, h)
 
   words-fault : sound g s ≡ false → wordsIn (g .model) s 0 ≡ words
@@ -145,6 +145,6 @@ module _ (m : Module) (s : Sample) where
       (λ k l. bit-past 0 k 0 (omega arith) (omega arith) ∙ sym (ap (λ (b : Bool). b && rule k) h))
 
   -- a step that is answered 11
-  pub fault-call : sound g s ≡ false → faultCall m s ≡ stepCall m s
-  unfolding faultCall stepCall stepConfiguration stepState stepAnswer faultAnswer faultAnswerIn
+  pub fault-call : sound g s ≡ false → changed m (faultChange m s) ≡ stepCall m s
+  unfolding changed faultChange stepCall stepConfiguration stepState stepAnswer faultAnswer faultAnswerIn
   fault-call h = rw (words-fault h, h)

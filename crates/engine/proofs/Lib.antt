@@ -1,5 +1,5 @@
 pub mod Lists
-pub mod Outputs
+pub mod OutputLaws
 pub mod Words
 pub mod Calls
 pub mod Lent

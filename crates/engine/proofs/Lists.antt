@@ -8,7 +8,7 @@ use native.Mathlib.Numerals.{add-one}
 use native.Mathlib.Omega.{arith}
 use lib.Dec.{ltb}
 use lib.ListN.{length, getD, take, drop, set, length-set, length-map, drop-of-length-le, List·getD-eq-default}
-use lib.Seq.{take-suc-set, take-all}
+use lib.Seq.{take-suc-set, take-all, drop-cons}
 use borrow.Author.Tests.{ltb-true, ltb-false}
 use Rattle.rules.specs.Words.{table}
 use Rattle.rules.proofs.Packing.{length-table, getD-table-0, table-more}
@@ -74,6 +74,14 @@ module _ {A : Type 0} where
       let m : n - (k - 1) ≡ suc (n - k) = omega arith in
       let j : k - 1 + 1 ≡ k = omega arith in
       (simp length-set (e .0), rw (m, drop-set xs (k - 1) v (omega arith), j, e .1, q))
+
+  pub down-kept : (n k : ℕ) (f : ℕ → A) (xs : List A) (d : A) → 0 < k → k ≤ n → FilledDown n k f xs → getD xs (k - 1) d ≡ f (k - 1) → FilledDown n (k - 1) f xs
+  unfolding table
+  down-kept n k f xs d h l e q =
+      let m : n - (k - 1) ≡ suc (n - k) = omega arith in
+      let j : suc (k - 1) ≡ k = omega arith in
+      let i : k - 1 + 1 ≡ k = omega arith in
+      (e .0, rw (m, drop-cons xs (k - 1) d (omega arith), j, i, e .1, q))
 
   pub down-all : (n k : ℕ) (f : ℕ → A) (xs : List A) → k ≡ 0 → FilledDown n k f xs → xs ≡ table n 0 f
   down-all n k f xs h e =

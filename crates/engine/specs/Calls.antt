@@ -16,10 +16,11 @@ use Rattle.rules.specs.Motion.{tachReading, tachOverflow}
 use Rattle.rules.specs.Switches.{changedCount}
 use Rattle.rules.specs.Programming.{withRaw, withFault}
 use Rattle.rules.specs.Card.{moduleStart, speedAt}
-use Rattle.engine.specs.declared.Reading.{Reading}
-use Rattle.engine.specs.declared.GroupsAfter.{GroupsAfter}
-use Rattle.engine.specs.declared.OutputsAfter.{OutputsAfter}
-use Rattle.engine.specs.declared.OutputWords.{OutputWords}
+use Rattle.engine.specs.declared.reading.Reading.{Reading}
+use Rattle.engine.specs.declared.groups.GroupsAfter.{GroupsAfter}
+use Rattle.engine.specs.declared.outputs.OutputsAfter.{OutputsAfter}
+use Rattle.engine.specs.declared.answer.OutputWords.{OutputWords}
+use Rattle.engine.specs.declared.Change.{Change}
 use Rattle.engine.specs.Groups.{readingAt, groupsIn}
 use Rattle.engine.specs.Outputs.{outputsIn, wordsIn}
 
@@ -68,21 +69,26 @@ abbrev pub wordsOf : Module → Sample → OutputWords
 wordsOf m s = wordsIn (m .configuration .model) s (outputsOf m s .on)
 
 -- a step that is not answered 11
-unfoldable pub soundCall : Module → Sample → Stepped
-soundCall m s = record {
-  card = record {
-    configuration = withRaw (m .configuration) (s .raw);
-    state = stateIn (speedAt (m .configuration) (m .state) s) (readingAt (m .configuration) (m .state) s .machine) (groupsOf m s) (outputsOf m s .timed) (wordsOf m s .virtuals);
-  };
+unfoldable pub soundChange : Module → Sample → Change
+soundChange m s = record {
+  state = stateIn (speedAt (m .configuration) (m .state) s) (readingAt (m .configuration) (m .state) s .machine) (groupsOf m s) (outputsOf m s .timed) (wordsOf m s .virtuals);
+  raw = s .raw;
+  fault = m .configuration .fault;
   answer = soundAnswerIn (m .configuration .programming .setup) (readingAt (m .configuration) (m .state) s) (m .state .virtuals) (wordsOf m s);
 }
 
 -- a step that is answered 11
-unfoldable pub faultCall : Module → Sample → Stepped
-faultCall m s = record {
-  card = record {
-    configuration = withFault (m .configuration) true;
-    state = moduleStart (m .state .position) (wordsIn (m .configuration .model) s 0 .virtuals);
-  };
+unfoldable pub faultChange : Module → Sample → Change
+faultChange m s = record {
+  state = moduleStart (m .state .position) (wordsIn (m .configuration .model) s 0 .virtuals);
+  raw = m .configuration .raw;
+  fault = true;
   answer = faultAnswerIn (m .configuration .programming .setup) (m .state .position) (m .state .virtuals) (wordsIn (m .configuration .model) s 0);
+}
+
+-- a module so changed, with the answer
+unfoldable pub changed : Module → Change → Stepped
+changed m c = record {
+  card = record { configuration = withFault (withRaw (m .configuration) (c .raw)) (c .fault); state = c .state };
+  answer = c .answer;
 }

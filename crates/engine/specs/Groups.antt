@@ -18,9 +18,9 @@ use Rattle.rules.specs.Motion.{realInput, machinePosition, windowSteps, detects
 use Rattle.rules.specs.Groups.{noGroup, isOpen}
 use Rattle.rules.specs.Card.{updates, positionNow, groupAfter, freshGroup, noPosition, speedAt}
 use Rattle.motion.specs.Level.{levelIn}
-use Rattle.engine.specs.declared.Reading.{Reading}
-use Rattle.engine.specs.declared.GroupAfter.{GroupAfter}
-use Rattle.engine.specs.declared.GroupsAfter.{GroupsAfter}
+use Rattle.engine.specs.declared.reading.Reading.{Reading}
+use Rattle.engine.specs.declared.groups.GroupAfter.{GroupAfter}
+use Rattle.engine.specs.declared.groups.GroupsAfter.{GroupsAfter}
 
 -- what the groups and the outputs read, where the speed was `before` and is `after`
 unfoldable pub readingIn : Model → Setup → Speed → Speed → Sample → Reading

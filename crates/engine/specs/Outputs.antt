@@ -21,10 +21,10 @@ use Rattle.rules.specs.Motion.{travelValue}
 use Rattle.rules.specs.Switches.{pairHolds, switchHolds, typeOf, pastLimits, outputOn}
 use Rattle.rules.specs.Card.{noPosition, freshTimed, timedAfter}
 use Rattle.motion.specs.Level.{levelIn}
-use Rattle.engine.specs.declared.Reading.{Reading}
-use Rattle.engine.specs.declared.OutputAfter.{OutputAfter}
-use Rattle.engine.specs.declared.OutputsAfter.{OutputsAfter}
-use Rattle.engine.specs.declared.OutputWords.{OutputWords}
+use Rattle.engine.specs.declared.reading.Reading.{Reading}
+use Rattle.engine.specs.declared.outputs.OutputAfter.{OutputAfter}
+use Rattle.engine.specs.declared.outputs.OutputsAfter.{OutputsAfter}
+use Rattle.engine.specs.declared.answer.OutputWords.{OutputWords}
 
 -- the place of group `owner` among the groups, from 0
 abbrev pub placeOf : ℕ → ℕ

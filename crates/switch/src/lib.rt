@@ -160,7 +160,7 @@ fn pair_at(top: u16, onmove: u16, offmove: u16, on: u16, off: u16, p: u16) -> bo
     ensures { λ r. ⌜ r ≡ pairAt (top + 1) onmove offmove on off p ⌝ }
 {
     if used_pair(on, off) {
-        if (top < onmove) | (top < offmove) | (top < on) | (top < off) | (top < p) {
+        if (top < on) | (top < off) | (top < onmove) | (top < offmove) | (top < p) {
             return holds_far(
                 top,
                 moved_far(top, onmove, on),

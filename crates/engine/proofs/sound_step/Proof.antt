@@ -1,7 +1,7 @@
 -- `engine::sound_step` meets its contract: the calls put together. Assumes nothing.
 use borrow.Author.Needs.{needs}
 use Rattle.rules.specs.Card.{speedAt}
-use Rattle.engine.specs.Calls.{soundCall}
+use Rattle.engine.specs.Calls.{soundChange}
 use Rattle.engine.proofs.sound_step.Statement.{statement}
 use Rattle.engine.proofs.sound_step.Tie as tie
 
@@ -27,8 +27,8 @@ sound-answer-requires : tie.Need-sound-answer-requires
 sound-answer-requires c κs = search needs
 
 returns : tie.Need-returns
-unfolding soundCall speedAt
-returns c = rw (c .before .sound-answer .ensures, c .before .before .state-after .ensures, c .before .before .before .before .output-words .ensures, c .before .before .before .before .before .outputs-after .ensures, c .before .before .before .before .before .before .before .before .before .before .before .groups-after .ensures, c .before .before .before .before .before .before .before .before .before .before .before .before .before .before .reading-of .ensures, c .before .before .before .before .before .before .before .before .before .before .before .before .before .before .before .speed-at .ensures)
+unfolding soundChange speedAt
+returns c = rw (c .sound-answer .ensures, c .before .state-after .ensures, c .before .before .before .output-words .ensures, c .before .before .before .before .outputs-after .ensures, c .before .before .before .before .before .before .before .before .before .before .groups-after .ensures, c .before .before .before .before .before .before .before .before .before .before .before .before .before .reading-of .ensures, c .before .before .before .before .before .before .before .before .before .before .before .before .before .before .speed-at .ensures)
 
 pub sound-step-spec : {M : Type 1} → statement M
 sound-step-spec =

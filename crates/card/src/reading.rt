@@ -10,14 +10,13 @@ use crate::plain::PlainSetup;
 use crate::plain::PlainSpeed;
 use crate::plain::PlainState;
 use crate::plain::PlainSwitch;
-use rules::Anded;
+use group_block::mode_of;
+use group_block::type_of;
+use limit_block::anded_of;
 use rules::Configuration;
-use rules::DecimalCode;
 use rules::Group;
-use rules::IoType;
 use rules::Last;
 use rules::Limit;
-use rules::Mode;
 use rules::Model;
 use rules::Module;
 use rules::Programming;
@@ -26,53 +25,11 @@ use rules::Setup;
 use rules::Speed;
 use rules::State;
 use rules::Switch;
+use setup::code_of;
 ghost use mathlib.Core.Path.{_≡_};
 ghost use mathlib.Core.List.{map};
 ghost use Rattle.rules.specs.Programming as programming;
 ghost use Rattle.card.specs.Plain as plain;
-
-fn code_of(n: u16) -> DecimalCode
-    ensures { λ r. ⌜ r ≡ programming.codeOf n ⌝ }
-{
-    match n {
-        0 => DecimalCode::Code0,
-        1 => DecimalCode::Code1,
-        2 => DecimalCode::Code2,
-        _ => DecimalCode::Code3,
-    }
-}
-
-fn mode_of(n: u16) -> Mode
-    ensures { λ r. ⌜ r ≡ programming.modeOf n ⌝ }
-{
-    match n {
-        1 => Mode::Mode1,
-        2 => Mode::Mode2,
-        3 => Mode::Mode3,
-        4 => Mode::Mode4,
-        5 => Mode::Mode5,
-        _ => Mode::Mode0,
-    }
-}
-
-fn type_of(isvirtual: bool) -> IoType
-    ensures { λ r. ⌜ r ≡ programming.ioTypeOf isvirtual ⌝ }
-{
-    if isvirtual {
-        return IoType::Virtual;
-    }
-    IoType::Real
-}
-
-fn anded_of(n: u16) -> Anded
-    ensures { λ r. ⌜ r ≡ programming.andedOf n ⌝ }
-{
-    match n {
-        1 => Anded::First,
-        2 => Anded::Second,
-        _ => Anded::Neither,
-    }
-}
 
 fn model_of(n: u16) -> Model
     ensures { λ r. ⌜ r ≡ programming.modelOf n ⌝ }

@@ -36,7 +36,7 @@ fn mode_number(control: u16) -> u16
 }
 
 // The mode of a number; the checks let none over 5 through.
-fn mode_of(n: u16) -> Mode
+pub fn mode_of(n: u16) -> Mode
     ensures { λ r. ⌜ r ≡ programming.modeOf n ⌝ }
 {
     match n {
@@ -50,7 +50,7 @@ fn mode_of(n: u16) -> Mode
 }
 
 // GPTyp and FCITyp: set for virtual.
-fn type_of(set: bool) -> IoType
+pub fn type_of(set: bool) -> IoType
     ensures { λ r. ⌜ r ≡ programming.ioTypeOf set ⌝ }
 {
     if set {

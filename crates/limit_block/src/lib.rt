@@ -294,7 +294,7 @@ fn advance_of(w: u16) -> Advance
 }
 
 // The detector of a control word's bits 14 and 13.
-fn anded_of(d: u16) -> Anded
+pub fn anded_of(d: u16) -> Anded
     ensures { λ r. ⌜ r ≡ andedOf d ⌝ }
 {
     if d == 1 {

@@ -115,7 +115,7 @@ fn setup_errors(file: &[u16]) -> u16
 }
 
 // The decimal code that a word gives.
-fn code_of(n: u16) -> DecimalCode
+pub fn code_of(n: u16) -> DecimalCode
     ensures { λ r. ⌜ r ≡ programming.codeOf n ⌝ }
 {
     match n {

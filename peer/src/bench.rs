@@ -67,9 +67,16 @@ fn small_block(output: u16) -> [u16; LIMIT_BLOCK_WORDS] {
     block
 }
 
+/// The files that a module is programmed with.
+pub struct Files {
+    pub number: u16,
+    pub m0: [u16; M0_WORDS],
+    pub m1: [u16; M1_WORDS],
+}
+
 impl Case {
-    /// The module, programmed.
-    fn module(&self) -> Module {
+    /// The files: each cycle is sent once and is accepted.
+    pub fn files(&self) -> Files {
         let mut m0 = [0; M0_WORDS];
         m0[..self.setup.len()].copy_from_slice(&self.setup);
         m0[GROUP_COMMAND] = TRANSMIT;
@@ -83,10 +90,17 @@ impl Case {
             let at = limit_block_at(usize::from(output));
             m1[at..at + LIMIT_BLOCK_WORDS].copy_from_slice(&(self.limit_block)(output));
         }
-        let mut module = Module::power_up(self.number).expect("known module");
-        assert_eq!(module.setup_cycle(&mut m0), Answer::Accepted);
-        assert_eq!(module.group_cycle(&mut m0), Answer::Accepted);
-        assert_eq!(module.limit_cycle(&mut m1), Answer::Accepted);
+        let number = self.number;
+        Files { number, m0, m1 }
+    }
+
+    /// The module, programmed.
+    fn module(&self) -> Module {
+        let mut files = self.files();
+        let mut module = Module::power_up(files.number).expect("known module");
+        assert_eq!(module.setup_cycle(&mut files.m0), Answer::Accepted);
+        assert_eq!(module.group_cycle(&mut files.m0), Answer::Accepted);
+        assert_eq!(module.limit_cycle(&mut files.m1), Answer::Accepted);
         module
     }
 
@@ -97,7 +111,8 @@ impl Case {
     }
 }
 
-fn sample(step: u32) -> [u16; SAMPLE_WORDS] {
+/// The sample of a step, counted from 0.
+pub fn sample(step: u32) -> [u16; SAMPLE_WORDS] {
     let place = step % 8192;
     let raw = (2 * place + place * place / 4096) % 1024;
     let mut sample = [0; SAMPLE_WORDS];
@@ -111,13 +126,19 @@ fn add(sum: u32, answer: &StepAnswer) -> u32 {
     let [md1, md2] = answer.detectors.map(u32::from);
     let readings = 8 * answer.rpm + 4 * u32::from(answer.tach_overflow) + 2 * md1 + md2;
     let refused = u32::from(answer.refusal.is_some());
-    [
-        u32::from(answer.machine_position.0) | u32::from(answer.tach) << 16,
-        u32::from(answer.real_outputs) | u32::from(answer.virtual_outputs) << 16,
-        readings | answer.changed << 21 | refused << 26,
-    ]
-    .iter()
-    .fold(sum, |sum, number| {
+    checksum(
+        sum,
+        [
+            u32::from(answer.machine_position.0) | u32::from(answer.tach) << 16,
+            u32::from(answer.real_outputs) | u32::from(answer.virtual_outputs) << 16,
+            readings | answer.changed << 21 | refused << 26,
+        ],
+    )
+}
+
+/// The checksum with the three numbers of one more answer.
+pub fn checksum(sum: u32, numbers: [u32; 3]) -> u32 {
+    numbers.iter().fold(sum, |sum, number| {
         sum.wrapping_mul(31).wrapping_add(*number)
     })
 }

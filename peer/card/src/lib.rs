@@ -1,6 +1,7 @@
 //! The card's own loop: the calls of target/staticlib/libcard.a on a module
 //! that stays where it is, and a replay over them.
 
+pub mod bench;
 pub mod layout;
 pub mod replay;
 

@@ -1,0 +1,62 @@
+"""docs/READING.md names definitions, theorems, calls and edits that are there."""
+import glob
+import os
+import re
+import unittest
+
+ROOT = os.path.join(os.path.dirname(os.path.abspath(__file__)), "..")
+
+
+def read(path):
+    with open(path, encoding="utf-8") as file:
+        return file.read()
+
+
+def all_of(pattern):
+    return "\n".join(read(path) for path in glob.glob(os.path.join(ROOT, pattern), recursive=True))
+
+
+def section(title):
+    text = read(os.path.join(ROOT, "docs", "READING.md"))
+    return text.split("\n## " + title + "\n", 1)[1].split("\n## ", 1)[0]
+
+
+def named(text):
+    """The names in a table's rows, each part of a path by itself."""
+    rows = [line for line in text.splitlines() if line.startswith("|")]
+    quoted = re.findall(r"`([^`]+)`", "\n".join(rows))
+    return {name for words in quoted for name in re.findall(r"[A-Za-z][\w-]*", words) if "/" not in words}
+
+
+class Names(unittest.TestCase):
+    def assert_declared(self, names, text):
+        missing = [name for name in names if not re.search(r"(?<![\w·-])%s(?![\w·-])" % re.escape(name), text)]
+        self.assertEqual(missing, [])
+
+    def test_the_clauses_of_01_name_definitions_of_the_rules(self):
+        names = named(section("01 clause by clause"))
+        self.assertGreater(len(names), 100)
+        self.assert_declared(names, all_of("crates/rules/specs/*.antt") + all_of("crates/rules/src/*.rt"))
+
+    def test_the_statements_name_theorems(self):
+        names = named(section("The ten statements that matter"))
+        self.assertIn("every-output", names)
+        self.assert_declared(names, all_of("crates/rules/proofs/*.antt") + all_of("crates/trace/proofs/*.antt") + all_of("crates/trace/src/*.rt"))
+
+    def test_each_call_names_its_function_and_its_edits(self):
+        edits = {os.path.splitext(os.path.basename(path))[0] for path in glob.glob(os.path.join(ROOT, "crates/*/must-fail/*.edit"))}
+        code = all_of("crates/*/src/*.rt") + all_of("crates/rules/specs/*.antt") + " ".join(os.listdir(os.path.join(ROOT, "crates")))
+        for title in ["The public calls", "The exported calls"]:
+            rows = [line for line in section(title).splitlines() if re.match(r"\| [`a-z]", line) and "`" in line]
+            self.assertGreaterEqual(len(rows), 6)
+            for row in rows:
+                names = named(row)
+                self.assertGreaterEqual(len(names & edits), 2, row)
+                self.assert_declared(names - edits, code)
+
+    def test_the_history_names_definitions(self):
+        self.assert_declared(named(section("The history, sentence by sentence")), all_of("crates/rules/specs/*.antt"))
+
+
+if __name__ == "__main__":
+    unittest.main()

@@ -35,12 +35,12 @@ use denote.Triple.Entry.{onEntry}
 use denote.Triple.Spec.{Spec, Meets, tripleOf, exits}
 use denote.Triple.Walked.{says, Stays, stay-ref, gave-slice, walkOf, goes-ref, goes-gave-slice, ends-at, walked, walk-meets}
 use denote.Exit.{yes}
-use Rattle.card.specs.declared.plain.PlainModule.{PlainModule}
-use Rattle.card.specs.declared.plain.PlainProgrammed.{PlainProgrammed}
-use Rattle.card.proofs.plain.PlainModule as T
-use Rattle.card.proofs.plain.PlainModule.Laws as T′
-use Rattle.card.proofs.plain.PlainProgrammed as D
-use Rattle.card.proofs.plain.PlainProgrammed.Laws as D′
+use Rattle.plain.specs.declared.PlainModule.{PlainModule}
+use Rattle.plain.specs.declared.PlainProgrammed.{PlainProgrammed}
+use Rattle.plain.proofs.PlainModule as T
+use Rattle.plain.proofs.PlainModule.Laws as T′
+use Rattle.plain.proofs.PlainProgrammed as D
+use Rattle.plain.proofs.PlainProgrammed.Laws as D′
 use Rattle.engine.proofs.Lent.{of}
 use Rattle.card.proofs.LentFile as LentFile
 use Rattle.card.proofs.Word.{word}

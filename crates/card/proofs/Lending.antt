@@ -31,9 +31,9 @@ use denote.Triple.Entry.{onEntry}
 use denote.Triple.Spec.{Spec, Meets, tripleOf, exits}
 use denote.Triple.Walked.{says, Stays, stay-ref, stay-none, walkOf, goes-none, goes-ref, ends-at, walked, walk-meets}
 use denote.Exit.{yes, unchanged}
-use Rattle.card.specs.declared.plain.PlainModule.{PlainModule}
-use Rattle.card.proofs.plain.PlainModule as T
-use Rattle.card.proofs.plain.PlainModule.Laws as T′
+use Rattle.plain.specs.declared.PlainModule.{PlainModule}
+use Rattle.plain.proofs.PlainModule as T
+use Rattle.plain.proofs.PlainModule.Laws as T′
 use Rattle.engine.proofs.Lent as Lent
 use Rattle.engine.proofs.Lent.{Single, at, of}
 

@@ -13,10 +13,10 @@ use denote.Builtin.{u16}
 use denote.Struct.Laws as LL
 use denote.Triple.Statement.{Contract, Triple}
 use denote.Triple.Spec.{Meets}
-use Rattle.card.specs.declared.plain.PlainModule.{PlainModule}
-use Rattle.card.specs.declared.plain.PlainProgrammed.{PlainProgrammed}
-use Rattle.card.proofs.plain.PlainProgrammed as D
-use Rattle.card.proofs.plain.PlainProgrammed.Laws as D′
+use Rattle.plain.specs.declared.PlainModule.{PlainModule}
+use Rattle.plain.specs.declared.PlainProgrammed.{PlainProgrammed}
+use Rattle.plain.proofs.PlainProgrammed as D
+use Rattle.plain.proofs.PlainProgrammed.Laws as D′
 use Rattle.engine.proofs.Lent.{Single}
 use Rattle.card.proofs.Lending as Lending
 

@@ -1,9 +1,6 @@
 // The card's own loop: the calls on a module that a host keeps where it sits, exported for C and Rust. include/chimneyrye.h is their header.
 
 mod calls;
-pub mod plain;
-mod reading;
-mod writing;
 
 use crate::calls::grouped;
 use crate::calls::limited;
@@ -11,12 +8,13 @@ use crate::calls::nudged;
 use crate::calls::powered;
 use crate::calls::set_up;
 use crate::calls::stepped;
-use crate::plain::PlainModule;
+use plain::PlainModule;
 use rules::Answer;
 use rules::Sample;
 ghost use mathlib.Core.Path.{_≡_};
 ghost use Rattle.rules.specs.Card as card;
-ghost use Rattle.card.specs.Plain.{moduleOf, answerNumber};
+ghost use Rattle.plain.specs.Plain.{moduleOf};
+ghost use Rattle.card.specs.Answers.{answerNumber};
 
 // Power-up. Returns 0, or 3 for a number that is no module's; the place then holds an 8511's defaults.
 #[no_mangle]

@@ -14,11 +14,11 @@ use Rattle.rules.proofs.Sample.Laws as S′
 use Rattle.rules.proofs.Answer as R
 use Rattle.rules.proofs.Answer.Laws as R′
 use Rattle.engine.proofs.Lent.{of}
-use Rattle.card.specs.declared.plain.PlainModule.{PlainModule}
-use Rattle.card.specs.declared.plain.PlainStepped.{PlainStepped}
-use Rattle.card.specs.Plain.{moduleOf}
-use Rattle.card.proofs.plain.PlainStepped as D
-use Rattle.card.proofs.plain.PlainStepped.Laws as D′
+use Rattle.plain.specs.declared.PlainModule.{PlainModule}
+use Rattle.plain.specs.declared.PlainStepped.{PlainStepped}
+use Rattle.plain.specs.Plain.{moduleOf}
+use Rattle.plain.proofs.PlainStepped as D
+use Rattle.plain.proofs.PlainStepped.Laws as D′
 use Rattle.card.proofs.Lending as Lending
 use Rattle.card.proofs.calls.stepped.Symbol as by-value
 use Rattle.card.proofs.calls.stepped.Met as by-value-met

@@ -1,7 +1,7 @@
 -- `card::calls::answered` meets its contract: nothing of the module is lost. Assumes nothing.
 use mathlib.Core.Path.{ap, _∙_}
-use Rattle.card.specs.Plain.{moduleOf}
-use Rattle.card.proofs.Laws.{plain-module}
+use Rattle.plain.specs.Plain.{moduleOf}
+use Rattle.plain.proofs.Laws.{plain-module}
 use Rattle.card.proofs.calls.answered.Statement.{statement}
 use Rattle.card.proofs.calls.answered.Tie as tie
 

@@ -1,6 +1,6 @@
 -- `card::calls::stepped` meets its contract: by the step; the rest of the module stays. Assumes nothing.
 use mathlib.Core.Path.{refl}
-use Rattle.card.proofs.Laws.{step-plain}
+use Rattle.plain.proofs.Laws.{step-plain}
 use Rattle.card.proofs.calls.stepped.Statement.{statement}
 use Rattle.card.proofs.calls.stepped.Tie as tie
 

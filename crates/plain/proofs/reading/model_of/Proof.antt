@@ -1,0 +1,20 @@
+-- `plain::reading::model_of` meets its contract: by the number. Assumes nothing.
+use borrow.Author.Tests.{ne-eqb}
+use Rattle.rules.specs.Programming.{modelOf}
+use Rattle.plain.proofs.reading.model_of.Statement.{statement}
+use Rattle.plain.proofs.reading.model_of.Tie as tie
+
+returns : tie.Need-returns
+unfolding modelOf
+returns c = rw (c .match .keys1)
+
+returns-2 : tie.Need-returns-2
+unfolding modelOf
+returns-2 c = rw (c .match .keys2)
+
+returns-3 : tie.Need-returns-3
+unfolding modelOf
+returns-3 c = simp (ne-eqb _ _ (c .match .rest .1), ne-eqb _ _ (c .match .rest .0 .1))
+
+pub model-of-spec : {M : Type 1} → statement M
+model-of-spec = tie.close (tie.spec returns returns-2 returns-3)

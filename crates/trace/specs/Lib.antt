@@ -1,3 +1,1 @@
-pub mod Buffer
-pub mod Digits
 pub mod Sections

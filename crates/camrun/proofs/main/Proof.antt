@@ -5,7 +5,7 @@ use mathlib.Core.List.{List}
 use native.Mathlib.Omega.{arith}
 use lib.ListN.{length, take, drop, length-take, length-drop, length-append}
 use Rattle.rules.specs.Trace.{report}
-use Rattle.trace.specs.Buffer.{written}
+use Rattle.trace_bytes.specs.Buffer.{written}
 use Rattle.camrun.proofs.main.Statement.{statement}
 use Rattle.camrun.proofs.main.Tie as tie
 

@@ -111,6 +111,21 @@ impl Case {
     }
 }
 
+/// The line that a bench prints for its arguments, a case and a number of
+/// steps, where `run` gives the checksum.
+pub fn line(arguments: &[&str], run: fn(&Case, u32) -> u32) -> Option<Vec<u8>> {
+    let [name, steps] = arguments else {
+        return None;
+    };
+    let case = match *name {
+        "a" => FULL,
+        "b" => SMALL,
+        _ => return None,
+    };
+    let checksum = run(&case, steps.parse().ok()?);
+    Some(format!("{name} {steps} {checksum}\n").into_bytes())
+}
+
 /// The sample of a step, counted from 0.
 pub fn sample(step: u32) -> [u16; SAMPLE_WORDS] {
     let place = step % 8192;

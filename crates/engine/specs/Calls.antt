@@ -1,4 +1,4 @@
--- What a step answers and leaves, over what the code has in hand; proofs/Laws.antt shows each to be rules' definition of it.
+-- What a step answers and leaves, over what the code has in hand; proofs/ shows each to be rules' definition of it.
 -- Assumes nothing.
 use Prim.Native.Nat.{ℕ}
 use mathlib.Core.Bool.{true, false}

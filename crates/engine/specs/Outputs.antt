@@ -1,4 +1,4 @@
--- What a step's outputs are, over what the code has in hand; proofs/Laws.antt shows each to be rules' definition of it.
+-- What a step's outputs are, over what the code has in hand; proofs/ shows each to be rules' definition of it.
 -- Assumes nothing.
 use Prim.Native.Nat.{ℕ, _+_, _-_}
 use mathlib.Core.Bool.{Bool, true, false, cond, not, _&&_, _||_}

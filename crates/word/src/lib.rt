@@ -5,7 +5,7 @@ ghost use mathlib.Core.List.{[], _∷_};
 ghost use mathlib.Core.Bool.{false, not, cond};
 ghost use Prim.Native.Nat.{_+_, _-_, _<_};
 ghost use lib.Dec.{leb};
-ghost use lib.ListN.{length, getD};
+ghost use lib.ListN.{length};
 ghost use Rattle.rules.specs.Words as words;
 ghost use Rattle.word.specs.Layout.{named};
 
@@ -45,19 +45,6 @@ pub fn other_bit(w: u16, layout: Layout) -> bool
     ensures { λ r. ⌜ r ≡ words.otherBit (named layout) w ⌝ }
 {
     reserved(layout) & w != 0
-}
-
-// The word whose bit n is answer n.
-pub fn packed(answers: [bool; 16]) -> u16
-    ensures { λ r. ⌜ r ≡ words.wordOf 0 (λ n. getD answers n false) ⌝ }
-{
-    let mut w: u16 = 0;
-    let mut left: usize = 16;
-    while 0 < left {
-        left = left - 1;
-        w = w * 2 + answers[left] as u16;
-    }
-    w
 }
 
 // How many of sixteen outputs changed.

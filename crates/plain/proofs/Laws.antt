@@ -32,7 +32,8 @@ use Rattle.rules.specs.declared.Switch.the-variants.{Unprogrammed, Normal, Puls
 use Rattle.rules.specs.Programming.{codeOf, ioTypeOf, modeOf, andedOf, modelOf, sound, withFault, withRaw, stepConfiguration}
 use Rattle.rules.specs.Card.{stepCall}
 use Rattle.plain.specs.declared.PlainModule.{PlainModule}
-use Rattle.plain.specs.Plain.{codeNumber, modeNumber, isVirtual, andedNumber, modelNumber, switchOf, lastOf, scalarsOf, setupOf, groupOf, limitOf, programmingOf, configurationOf, speedOf, stateOf, moduleOf, plainSwitch, plainLast, plainScalars, plainSetup, plainGroup, plainLimit, plainProgramming, plainConfiguration, plainSpeed, plainState, plainModule}
+use Rattle.rules.specs.Motion.{codeNumber}
+use Rattle.plain.specs.Plain.{modeNumber, isVirtual, andedNumber, modelNumber, switchOf, lastOf, scalarsOf, setupOf, groupOf, limitOf, programmingOf, configurationOf, speedOf, stateOf, moduleOf, plainSwitch, plainLast, plainScalars, plainSetup, plainGroup, plainLimit, plainProgramming, plainConfiguration, plainSpeed, plainState, plainModule}
 
 -- ---- Nothing is lost
 

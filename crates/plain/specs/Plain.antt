@@ -7,8 +7,6 @@ use lib.Dec.{eqb}
 use Rattle.rules.specs.declared.Anded.{Anded}
 use Rattle.rules.specs.declared.Anded.the-variants.{Neither, First, Second}
 use Rattle.rules.specs.declared.Configuration.{Configuration}
-use Rattle.rules.specs.declared.DecimalCode.{DecimalCode}
-use Rattle.rules.specs.declared.DecimalCode.the-variants.{Code0, Code1, Code2, Code3}
 use Rattle.rules.specs.declared.Group.{Group}
 use Rattle.rules.specs.declared.IoType.{IoType}
 use Rattle.rules.specs.declared.IoType.the-variants.{Real, Virtual}
@@ -27,6 +25,7 @@ use Rattle.rules.specs.declared.Speed.{Speed}
 use Rattle.rules.specs.declared.State.{State}
 use Rattle.rules.specs.declared.Switch.{Switch}
 use Rattle.rules.specs.declared.Switch.the-variants.{Unprogrammed, Normal, Pulse, Timed}
+use Rattle.rules.specs.Motion.{codeNumber}
 use Rattle.rules.specs.Programming.{codeOf, ioTypeOf, modeOf, andedOf, modelOf}
 use Rattle.plain.specs.declared.PlainConfiguration.{PlainConfiguration}
 use Rattle.plain.specs.declared.PlainGroup.{PlainGroup}
@@ -41,12 +40,6 @@ use Rattle.plain.specs.declared.PlainState.{PlainState}
 use Rattle.plain.specs.declared.PlainSwitch.{PlainSwitch}
 
 -- ---- The numbers
-
-abbrev pub codeNumber : DecimalCode → ℕ
-codeNumber Code0 = 0
-codeNumber Code1 = 1
-codeNumber Code2 = 2
-codeNumber Code3 = 3
 
 abbrev pub modeNumber : Mode → ℕ
 modeNumber Mode0 = 0

@@ -28,10 +28,11 @@ use rules::State;
 use rules::Switch;
 ghost use mathlib.Core.Path.{_≡_};
 ghost use mathlib.Core.List.{map};
+ghost use Rattle.rules.specs.Motion as motion;
 ghost use Rattle.plain.specs.Plain as plain;
 
 fn code_number(c: DecimalCode) -> u16
-    ensures { λ r. ⌜ r ≡ plain.codeNumber c ⌝ }
+    ensures { λ r. ⌜ r ≡ motion.codeNumber c ⌝ }
 {
     match c {
         DecimalCode::Code0 => 0,

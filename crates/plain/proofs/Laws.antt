@@ -33,7 +33,8 @@ use Rattle.rules.specs.Programming.{codeOf, ioTypeOf, modeOf, andedOf, modelOf,
 use Rattle.rules.specs.Card.{stepCall}
 use Rattle.plain.specs.declared.PlainModule.{PlainModule}
 use Rattle.rules.specs.Motion.{codeNumber}
-use Rattle.plain.specs.Plain.{modeNumber, isVirtual, andedNumber, modelNumber, switchOf, lastOf, scalarsOf, setupOf, groupOf, limitOf, programmingOf, configurationOf, speedOf, stateOf, moduleOf, plainSwitch, plainLast, plainScalars, plainSetup, plainGroup, plainLimit, plainProgramming, plainConfiguration, plainSpeed, plainState, plainModule}
+use Rattle.rules.specs.Run.{modelNumber}
+use Rattle.plain.specs.Plain.{modeNumber, isVirtual, andedNumber, switchOf, lastOf, scalarsOf, setupOf, groupOf, limitOf, programmingOf, configurationOf, speedOf, stateOf, moduleOf, plainSwitch, plainLast, plainScalars, plainSetup, plainGroup, plainLimit, plainProgramming, plainConfiguration, plainSpeed, plainState, plainModule}
 
 -- ---- Nothing is lost
 
@@ -61,7 +62,7 @@ anded-back First = refl
 anded-back Second = refl
 
 model-back : (m : Model) → modelOf (modelNumber m) ≡ m
-unfolding modelOf
+unfolding modelOf modelNumber
 model-back M8511 = refl
 model-back M8512 = refl
 model-back M8513 = refl

@@ -15,8 +15,6 @@ use Rattle.rules.specs.declared.Last.the-variants.{NoStep, At}
 use Rattle.rules.specs.declared.Limit.{Limit}
 use Rattle.rules.specs.declared.Mode.{Mode}
 use Rattle.rules.specs.declared.Mode.the-variants.{Mode0, Mode1, Mode2, Mode3, Mode4, Mode5}
-use Rattle.rules.specs.declared.Model.{Model}
-use Rattle.rules.specs.declared.Model.the-variants.{M8511, M8512, M8513}
 use Rattle.rules.specs.declared.Module.{Module}
 use Rattle.rules.specs.declared.Programming.{Programming}
 use Rattle.rules.specs.declared.Scalars.{Scalars}
@@ -26,6 +24,7 @@ use Rattle.rules.specs.declared.State.{State}
 use Rattle.rules.specs.declared.Switch.{Switch}
 use Rattle.rules.specs.declared.Switch.the-variants.{Unprogrammed, Normal, Pulse, Timed}
 use Rattle.rules.specs.Motion.{codeNumber}
+use Rattle.rules.specs.Run.{modelNumber}
 use Rattle.rules.specs.Programming.{codeOf, ioTypeOf, modeOf, andedOf, modelOf}
 use Rattle.plain.specs.declared.PlainConfiguration.{PlainConfiguration}
 use Rattle.plain.specs.declared.PlainGroup.{PlainGroup}
@@ -57,11 +56,6 @@ abbrev pub andedNumber : Anded → ℕ
 andedNumber Neither = 0
 andedNumber First = 1
 andedNumber Second = 2
-
-abbrev pub modelNumber : Model → ℕ
-modelNumber M8511 = 8511
-modelNumber M8512 = 8512
-modelNumber M8513 = 8513
 
 -- ---- The module that a plain one stands for
 

@@ -29,6 +29,7 @@ use rules::Switch;
 ghost use mathlib.Core.Path.{_≡_};
 ghost use mathlib.Core.List.{map};
 ghost use Rattle.rules.specs.Motion as motion;
+ghost use Rattle.rules.specs.Run as run;
 ghost use Rattle.plain.specs.Plain as plain;
 
 fn code_number(c: DecimalCode) -> u16
@@ -75,7 +76,7 @@ fn anded_number(d: Anded) -> u16
 }
 
 fn model_number(m: Model) -> u16
-    ensures { λ r. ⌜ r ≡ plain.modelNumber m ⌝ }
+    ensures { λ r. ⌜ r ≡ run.modelNumber m ⌝ }
 {
     match m {
         Model::M8511 => 8511,

@@ -1,0 +1,54 @@
+-- Laws of what the calls answer: refused or accepted by their tests.
+-- Assumes nothing.
+use Prim.Native.Nat.{ℕ, suc, _+_, _<_, _≤_}
+use mathlib.Core.Bool.{Bool, true, false, cond}
+use mathlib.Core.List.{List, [], _∷_, _++_}
+use mathlib.Core.Path.{_≡_, refl, sym, ap, _∙_}
+use native.Mathlib.Omega.{arith}
+use lib.ListN.{length, drop}
+use lib.Dec.{leb}
+use borrow.Author.Tests.{leb-true, leb-false}
+use Rattle.df1.specs.declared.Refusal.the-variants.{DataLength, ShortBuffer, NotAFrame}
+use Rattle.df1.specs.declared.Outcome.the-variants.{Accepted, Refused}
+use Rattle.df1.specs.Frame.{allowed, frameOf, dataOf, isFrame, fits, writeOutcome, readOutcome, answerOf, bufferAfter}
+use Rattle.df1.specs.Parts.{dleCount}
+use Rattle.df1.proofs.Laws.{doubled-length}
+use Rattle.df1.proofs.Parts.{frame-length}
+
+-- a frame's length by its data's
+pub frame-size : (bytes : List ℕ) → length (frameOf bytes) ≡ length bytes + dleCount bytes + 5
+frame-size bytes = omega (arith, frame-length bytes, doubled-length bytes)
+
+-- bytes that fit are put, and only those
+module _ (n room : ℕ) where
+  pub fits-not : 0 < n → answerOf (fits n room) n .length ≡ 0 → fits n room ≡ Refused ShortBuffer
+  unfolding fits answerOf
+  fits-not some = go (leb n room)
+    where
+      go : (is : Bool) → answerOf (cond is Accepted (Refused ShortBuffer)) n .length ≡ 0 → cond is Accepted (Refused ShortBuffer) ≡ Refused ShortBuffer
+      go true h = absurd (omega arith)
+      go false h = refl
+
+  pub fits-whole : (answerOf (fits n room) n .length ≡ 0 → ⊥) → (fits n room ≡ Accepted) × (n ≤ room)
+  unfolding fits answerOf
+  fits-whole = go (leb n room) refl
+    where
+      go : (is : Bool) → leb n room ≡ is → (answerOf (cond is Accepted (Refused ShortBuffer)) n .length ≡ 0 → ⊥) → (cond is Accepted (Refused ShortBuffer) ≡ Accepted) × (n ≤ room)
+      go true e h = (refl, leb-true n room e)
+      go false e h = absurd (h refl)
+
+pub write-not-allowed : (bytes : List ℕ) (room : ℕ) → allowed (length bytes) ≡ false → writeOutcome bytes room ≡ Refused DataLength
+unfolding writeOutcome
+write-not-allowed bytes room h = rw h
+
+pub write-allowed : (bytes : List ℕ) (room : ℕ) → allowed (length bytes) ≡ true → writeOutcome bytes room ≡ fits (length (frameOf bytes)) room
+unfolding writeOutcome
+write-allowed bytes room h = rw h
+
+pub read-no-frame : (input : List ℕ) (room : ℕ) → isFrame input ≡ false → readOutcome input room ≡ Refused NotAFrame
+unfolding readOutcome
+read-no-frame input room h = rw h
+
+pub read-frame : (input : List ℕ) (room : ℕ) → isFrame input ≡ true → readOutcome input room ≡ fits (length (dataOf input)) room
+unfolding readOutcome
+read-frame input room h = rw h

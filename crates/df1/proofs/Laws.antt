@@ -1,0 +1,226 @@
+-- Laws of frames: data doubled and read again, sums, runs of stores, and the tests that tell a frame.
+-- Assumes nothing.
+use Prim.Native.Nat.{ℕ, zero, suc, _+_, _-_, _%_, _<_, _≤_}
+use mathlib.Core.Bool.{Bool, true, false, cond, not, _&&_}
+use mathlib.Core.List.{List, [], _∷_, _++_}
+use mathlib.Core.Path.{_≡_, refl, sym, ap, _∙_}
+use native.Mathlib.Omega.{arith}
+use native.Mathlib.Numerals.{add-one}
+use lib.ListN.{length, getD, drop, set, length-drop, drop-of-length-le}
+use lib.Seq.{sets, sets-eq, drop-cons, drop-drop, drop-length}
+use lib.Dec.{leb, eqb}
+use borrow.Author.Tests.{eqb-true, eq-eqb, ne-eqb}
+use Rattle.df1.specs.Frame.{dle, stx, etx, sent, doubled, sumOf, checkByte, frameOf, undoubled, same}
+use Rattle.df1.specs.Parts.{dleCount, paired}
+
+-- ---- Tests
+
+pub not-both : false ≡ true → ⊥
+not-both h =
+    let z : _≡_ {A = ℕ} 0 1 = cc in
+    omega arith
+
+pub and-left : (a b : Bool) → a && b ≡ true → a ≡ true
+and-left true b h = refl
+and-left false b h = h
+
+pub and-right : (a b : Bool) → a && b ≡ true → b ≡ true
+and-right true b h = h
+and-right false b h = absurd (not-both h)
+
+-- ---- Doubled data
+
+-- how many bytes of what was sent a data byte passes over beside itself
+abbrev pub more : ℕ → ℕ
+more b = cond (eqb b dle) 1 0
+
+pub undoubled-turn : (b : ℕ) (body : List ℕ) → undoubled (b ∷ body) ≡ b ∷ undoubled (drop (more b) body)
+unfolding undoubled
+undoubled-turn b body = go (eqb b dle) refl body
+  where
+    go : (is : Bool) → eqb b dle ≡ is → (body : List ℕ) → undoubled (b ∷ body) ≡ b ∷ undoubled (drop (cond is 1 0) body)
+    go true e [] = refl
+    go true e (c ∷ body) = rw e
+    go false e [] = refl
+    go false e (c ∷ body) = rw e
+
+pub doubled-length : (bytes : List ℕ) → length (doubled bytes) ≡ length bytes + dleCount bytes
+unfolding doubled sent dleCount
+doubled-length [] = refl
+doubled-length (b ∷ bytes) = go (eqb b dle) (doubled-length bytes)
+  where
+    go : (is : Bool) → length (doubled bytes) ≡ length bytes + dleCount bytes
+        → length (cond is (b ∷ b ∷ []) (b ∷ []) ++ doubled bytes) ≡ suc (length bytes) + (cond is 1 0 + dleCount bytes)
+    go true h = omega arith
+    go false h = omega arith
+
+pub dle-count-le : (bytes : List ℕ) → dleCount bytes ≤ length bytes
+unfolding dleCount
+dle-count-le [] = omega arith
+dle-count-le (b ∷ bytes) = go (eqb b dle) (dle-count-le bytes)
+  where
+    go : (is : Bool) → dleCount bytes ≤ length bytes → cond is 1 0 + dleCount bytes ≤ suc (length bytes)
+    go true h = omega arith
+    go false h = omega arith
+
+-- data read back from what is sent of them
+pub undoubled-doubled : (bytes : List ℕ) → undoubled (doubled bytes) ≡ bytes
+unfolding doubled sent undoubled
+undoubled-doubled [] = refl
+undoubled-doubled (b ∷ bytes) = go (eqb b dle) refl (undoubled-doubled bytes)
+  where
+    go : (is : Bool) → eqb b dle ≡ is → undoubled (doubled bytes) ≡ bytes → undoubled (cond is (b ∷ b ∷ []) (b ∷ []) ++ doubled bytes) ≡ b ∷ bytes
+    go true e h = rw (e, h)
+    go false e h = undoubled-turn b (doubled bytes) ∙ rw (e, h)
+
+-- ---- Bodies in which each DLE is one of two
+
+pub paired-turn : (b : ℕ) (body : List ℕ) → paired (b ∷ body) ≡ true → (paired (drop (more b) body) ≡ true) × (more b ≤ length body)
+unfolding paired
+paired-turn b body h = go (eqb b dle) refl body h
+  where
+    go : (is : Bool) → eqb b dle ≡ is → (body : List ℕ) → paired (b ∷ body) ≡ true → (paired (drop (cond is 1 0) body) ≡ true) × (cond is 1 0 ≤ length body)
+    go true e [] h = absurd (not-both (rw e at h))
+    go true e (c ∷ body) h = (and-right (eqb c dle) (paired body) (rw e at h), omega arith)
+    go false e [] h = (refl, omega arith)
+    go false e (c ∷ body) h = (rw e at h, omega arith)
+
+-- the body of doubled data, and doubled data of a body
+pub paired-doubled : (bytes : List ℕ) → paired (doubled bytes) ≡ true
+unfolding doubled sent paired
+paired-doubled [] = refl
+paired-doubled (b ∷ bytes) = go (eqb b dle) refl (doubled bytes) (paired-doubled bytes)
+  where
+    go : (is : Bool) → eqb b dle ≡ is → (rest : List ℕ) → paired rest ≡ true → paired (cond is (b ∷ b ∷ []) (b ∷ []) ++ rest) ≡ true
+    go true e rest h = rw (e, h)
+    go false e [] h = rw e
+    go false e (c ∷ rest) h = rw (e, h)
+
+pub doubled-undoubled : (body : List ℕ) → paired body ≡ true → doubled (undoubled body) ≡ body
+unfolding doubled sent undoubled paired
+doubled-undoubled [] h = refl
+doubled-undoubled (b ∷ []) h = go (eqb b dle) refl h
+  where
+    go : (is : Bool) → eqb b dle ≡ is → not is ≡ true → cond is (b ∷ b ∷ []) (b ∷ []) ++ [] ≡ b ∷ []
+    go true e h = absurd (not-both h)
+    go false e h = refl
+doubled-undoubled (b ∷ c ∷ body) h = go (eqb b dle) refl h (doubled-undoubled body) (doubled-undoubled (c ∷ body))
+  where
+    go : (is : Bool) → eqb b dle ≡ is → cond is (eqb c dle && paired body) (paired (c ∷ body)) ≡ true
+        → (paired body ≡ true → doubled (undoubled body) ≡ body) → (paired (c ∷ body) ≡ true → doubled (undoubled (c ∷ body)) ≡ c ∷ body)
+        → cond is (b ∷ b ∷ []) (b ∷ []) ++ doubled (cond is (undoubled body) (undoubled (c ∷ body))) ≡ b ∷ c ∷ body
+    go true e h two one =
+        let second : c ≡ b = eqb-true c dle (and-left (eqb c dle) (paired body) h) ∙ sym (eqb-true b dle e) in
+        rw (second, two (and-right (eqb c dle) (paired body) h))
+    go false e h two one = rw (one h)
+
+-- ---- At a place of data, or of what was sent
+
+next : (l : List ℕ) (k : ℕ) → k < length l → drop k l ≡ getD l k 0 ∷ drop (k + 1) l
+next l k h = rw add-one (drop-cons l k 0 h)
+
+pub doubled-next : (bytes : List ℕ) (k : ℕ) → k < length bytes → doubled (drop k bytes) ≡ sent (getD bytes k 0) ++ doubled (drop (k + 1) bytes)
+unfolding doubled
+doubled-next bytes k h = rw (next bytes k h)
+
+pub doubled-end : (bytes : List ℕ) → doubled (drop (length bytes) bytes) ≡ []
+unfolding doubled
+doubled-end bytes = rw drop-length
+
+paired-skip : (b : ℕ) (body : List ℕ) → eqb b dle ≡ false → paired (b ∷ body) ≡ paired body
+unfolding paired
+paired-skip b [] e = rw e
+paired-skip b (c ∷ body) e = rw e
+
+module _ (l : List ℕ) (k : ℕ) (within : k < length l) where
+  pub undoubled-some : 0 < length (undoubled (drop k l))
+  undoubled-some = rw (next l k within, undoubled-turn) (omega arith)
+
+  module _ (other : getD l k 0 ≡ dle → ⊥) where
+    pub count-other : dleCount (drop k l) ≡ dleCount (drop (k + 1) l)
+    unfolding dleCount
+    count-other = rw (next l k within, ne-eqb (getD l k 0) dle other) (omega arith)
+
+    pub undoubled-other : undoubled (drop k l) ≡ getD l k 0 ∷ undoubled (drop (k + 1) l)
+    undoubled-other = ap undoubled (next l k within) ∙ undoubled-turn (getD l k 0) (drop (k + 1) l) ∙ rw (ne-eqb (getD l k 0) dle other)
+
+    pub paired-other : paired (drop k l) ≡ paired (drop (k + 1) l)
+    paired-other = ap paired (next l k within) ∙ paired-skip (getD l k 0) (drop (k + 1) l) (ne-eqb (getD l k 0) dle other)
+
+  module _ (is : getD l k 0 ≡ dle) where
+    pub count-dle : dleCount (drop k l) ≡ 1 + dleCount (drop (k + 1) l)
+    unfolding dleCount
+    count-dle = rw (next l k within, eq-eqb (getD l k 0) dle is)
+
+    pub undoubled-dle : undoubled (drop k l) ≡ getD l k 0 ∷ undoubled (drop (k + 1 + 1) l)
+    undoubled-dle = ap undoubled (next l k within) ∙ undoubled-turn (getD l k 0) (drop (k + 1) l) ∙ rw (eq-eqb (getD l k 0) dle is, drop-drop 1 (k + 1) l)
+
+    pub paired-two : k + 1 < length l → getD l (k + 1) 0 ≡ dle → paired (drop k l) ≡ paired (drop (k + 1 + 1) l)
+    unfolding paired
+    paired-two more second = rw (next l k within, next l (k + 1) more, eq-eqb (getD l k 0) dle is, eq-eqb (getD l (k + 1) 0) dle second)
+
+    pub paired-then : paired (drop k l) ≡ true → (k + 1 < length l) × (paired (drop (k + 1 + 1) l) ≡ true)
+    paired-then h =
+        let t = rw (eq-eqb (getD l k 0) dle is) at (paired-turn (getD l k 0) (drop (k + 1) l) (rw (next l k within) at h)) in
+        (omega (arith, t .1, length-drop (k + 1) l), rw (drop-drop 1 (k + 1) l) at (t .0))
+
+    pub paired-one : k + 1 < length l → (getD l (k + 1) 0 ≡ dle → ⊥) → paired (drop k l) ≡ false
+    unfolding paired
+    paired-one more second = rw (next l k within, next l (k + 1) more, eq-eqb (getD l k 0) dle is, ne-eqb (getD l (k + 1) 0) dle second)
+
+    pub paired-end : length l ≤ k + 1 → paired (drop k l) ≡ false
+    unfolding paired
+    paired-end over = rw (next l k within, drop-of-length-le l {i = k + 1} over, eq-eqb (getD l k 0) dle is)
+
+-- ---- Sums
+
+pub sum-small : (bytes : List ℕ) → sumOf bytes < 256
+unfolding sumOf
+sum-small [] = omega arith
+sum-small (b ∷ bytes) = omega arith
+
+pub sum-next : (bytes : List ℕ) (k : ℕ) → k < length bytes → sumOf (drop k bytes) ≡ (getD bytes k 0 + sumOf (drop (k + 1) bytes)) % 256
+unfolding sumOf
+sum-next bytes k h = rw (next bytes k h)
+
+pub sum-end : (bytes : List ℕ) → sumOf (drop (length bytes) bytes) ≡ 0
+unfolding sumOf
+sum-end bytes = rw drop-length
+
+-- ---- Runs of stores
+
+pub sets-append : (out : List ℕ) (at : ℕ) (a b : List ℕ) → sets out at (a ++ b) ≡ sets (sets out at a) (at + length a) b
+sets-append out at [] b =
+    let e : at + 0 ≡ at = omega arith in
+    rw e
+sets-append out at (x ∷ a) b =
+    let e : at + suc (length a) ≡ suc at + length a = omega arith in
+    rw e (sets-append (set out at x) (suc at) a b)
+
+pub sets-start : (out a : List ℕ) → length a ≤ length out → sets out 0 a ≡ a ++ drop (length a) out
+sets-start out a h =
+    let e : 0 + length a ≡ length a = omega arith in
+    rw e at (sets-eq a out 0 (omega arith))
+
+-- the stores of the writer are a frame's
+pub frame-stores : (out bytes body : List ℕ) (end : ℕ) → body ≡ sets (set (set out 0 dle) 1 stx) 2 (doubled bytes) → end ≡ 2 + length (doubled bytes)
+    → sets (set (set body end dle) (end + 1) etx) (end + 2) (checkByte bytes ∷ []) ≡ sets out 0 (frameOf bytes)
+unfolding frameOf
+frame-stores out bytes body end b e =
+    let one : end + 1 ≡ suc end = omega arith in
+    let two : end + 2 ≡ suc (suc end) = omega arith in
+    rw (one, two, b, e) (sym (sets-append (set (set out 0 dle) 1 stx) 2 (doubled bytes) (dle ∷ etx ∷ checkByte bytes ∷ [])))
+
+-- ---- Two byte strings are the same
+
+pub same-refl : (a : List ℕ) → same a a ≡ true
+unfolding same
+same-refl [] = refl
+same-refl (x ∷ a) = rw (eq-eqb x x refl) (same-refl a)
+
+pub same-true : (a b : List ℕ) → same a b ≡ true → a ≡ b
+unfolding same
+same-true [] [] h = refl
+same-true [] (y ∷ b) h = absurd (not-both h)
+same-true (x ∷ a) [] h = absurd (not-both h)
+same-true (x ∷ a) (y ∷ b) h = rw (eqb-true x y (and-left (eqb x y) (same a b) h), same-true a b (and-right (eqb x y) (same a b) h))

@@ -1,0 +1,102 @@
+-- `df1::writing::write_frame` meets its contract: 15, then 16, then the frame. Assumes nothing.
+use Rattle.df1.specs.Frame.{allowed, frameOf, answerOf, bufferAfter, fits, writeAnswer, writeBuffer}
+use Rattle.df1.specs.Parts.{dleCount}
+use Rattle.df1.proofs.Laws.{dle-count-le, sets-start, and-right}
+use Rattle.df1.proofs.Answers.{frame-size, fits-not, fits-whole, write-not-allowed, write-allowed}
+use native.Mathlib.Omega.{arith}
+use borrow.Author.Tests.{not-true, not-false, leb-true}
+use Prim.Native.Nat.{ℕ, _+_, _≤_}
+use lib.ListN.{length}
+use mathlib.Core.Path.{_≡_, refl, sym, ap, _∙_}
+use mathlib.Core.Bool.{true, false}
+use lib.Dec.{ltb, leb}
+use Rattle.df1.specs.declared.Answer.{Answer}
+use Rattle.df1.specs.declared.Outcome.the-variants.{Accepted}
+use borrow.Author.Needs.{needs}
+use Rattle.df1.proofs.writing.write_frame.Statement.{statement}
+use Rattle.df1.proofs.writing.write_frame.Tie as tie
+
+-- what the tests have shown by then
+is-allowed-then : (c : tie.Else1) → allowed (length (c .before .before .before .before .args .bytes .now)) ≡ true
+is-allowed-then c = sym (c .before .is-allowed .ensures) ∙ not-false (c .before .is-allowed .result) (c .if1 .left)
+
+short : (c : tie.Else1) → length (c .before .before .before .before .args .bytes .now) ≤ 244
+short c =
+    let n = length (c .before .before .before .before .args .bytes .now) in
+    leb-true n 244 (and-right (ltb 0 n) (leb n 244) (is-allowed-then c))
+
+-- the answer by the frame's length
+fitted : (c : tie.After-fitting) → c .fitting .result ≡ answerOf (fits (length (frameOf (c .before .before .before .before .before .before .args .bytes .now))) (length (c .before .before .before .before .before .before .args .out .now))) (length (frameOf (c .before .before .before .before .before .before .args .bytes .now)))
+fitted c =
+    let bytes = c .before .before .before .before .before .before .args .bytes .now in
+    let e : length bytes + c .before .dle-count .result + 5 ≡ length (frameOf bytes) = omega (arith, frame-size bytes, c .before .dle-count .ensures) in
+    rw e at (c .fitting .ensures)
+
+whole : (c : tie.Else2) → (fits (length (frameOf (c .before .before .before .before .before .before .before .before .args .bytes .now))) (length (c .before .before .before .before .before .before .before .before .args .out .now)) ≡ Accepted) × (length (frameOf (c .before .before .before .before .before .before .before .before .args .bytes .now)) ≤ length (c .before .before .before .before .before .before .before .before .args .out .now))
+whole c =
+    fits-whole (length (frameOf (c .before .before .before .before .before .before .before .before .args .bytes .now))) (length (c .before .before .before .before .before .before .before .before .args .out .now)) (λ e. c .if2 .left (ap (λ (r : Answer). r .length) (fitted (c .before .before)) ∙ e))
+
+is-allowed-requires : tie.Need-is-allowed-requires
+is-allowed-requires c κs = search needs
+
+refused-requires : tie.Need-refused-requires
+refused-requires c κs = search needs
+
+returns : tie.Need-returns
+unfolding writeAnswer writeBuffer answerOf bufferAfter
+returns c = 
+    let a = c .before .before .before .before .before .args in
+    let o = write-not-allowed (a .bytes .now) (length (a .out .now)) (sym (c .before .before .is-allowed .ensures) ∙ not-true (c .before .before .is-allowed .result) (c .before .if1 .taken)) in
+    (c .refused .ensures ∙ rw o, rw o)
+
+dle-count-requires : tie.Need-dle-count-requires
+dle-count-requires c κs = search needs
+
+add-fitting : tie.Need-add-fitting
+add-fitting c = omega (arith, short (c .before), dle-count-le (c .before .before .before .before .before .args .bytes .now), c .dle-count .ensures)
+
+add-fitting-2 : tie.Need-add-fitting-2
+add-fitting-2 c = omega (arith, short (c .before), dle-count-le (c .before .before .before .before .before .args .bytes .now), c .dle-count .ensures)
+
+fitting-requires : tie.Need-fitting-requires
+fitting-requires c κs = search needs
+
+returns-2 : tie.Need-returns-2
+unfolding writeAnswer writeBuffer bufferAfter
+returns-2 c = 
+    let a = c .before .before .before .before .before .before .before .before .args in
+    let n = length (frameOf (a .bytes .now)) in
+    let h = fitted (c .before .before) in
+    let w = write-allowed (a .bytes .now) (length (a .out .now)) (is-allowed-then (c .before .before .before .before)) in
+    let o = fits-not n (length (a .out .now)) (omega (arith, frame-size (a .bytes .now))) (ap (λ (r : Answer). r .length) (sym h) ∙ c .if2 .taken) in
+    (h ∙ rw w, rw (w, o))
+
+put-frame-requires : tie.Need-put-frame-requires
+put-frame-requires c κs = whole (c .before) .1
+
+same-length : tie.Need-same-length
+same-length c = search needs
+
+returns-3 : tie.Need-returns-3
+unfolding writeAnswer writeBuffer bufferAfter
+returns-3 c = 
+    let a = c .before .before .before .before .before .before .before .before .before .before .before .before .args in
+    let w = write-allowed (a .bytes .now) (length (a .out .now)) (is-allowed-then (c .before .before .before .before .before .before .before .before)) in
+    let fit = whole (c .before .before .before .before) in
+    (fitted (c .before .before .before .before .before .before) ∙ rw w, c .before .before .put-frame .ensures ∙ sets-start (a .out .now) (frameOf (a .bytes .now)) (fit .1) ∙ rw (w, fit .0))
+
+pub write-frame-spec : {M : Type 1} → statement M
+write-frame-spec =
+    tie.close
+    (tie.spec
+    is-allowed-requires
+    refused-requires
+    returns
+    dle-count-requires
+    add-fitting
+    add-fitting-2
+    fitting-requires
+    returns-2
+    put-frame-requires
+    same-length
+    returns-3)

@@ -1,0 +1,105 @@
+// A frame put into a lent buffer.
+use crate::Answer;
+use crate::DLE;
+use crate::ETX;
+use crate::Refusal;
+use crate::STX;
+use crate::complement;
+use crate::fitting;
+use crate::is_allowed;
+use crate::refused;
+ghost use mathlib.Core.Path.{_≡_};
+ghost use mathlib.Core.Bool.{cond};
+ghost use mathlib.Core.List.{List, [], _∷_};
+ghost use Prim.Native.Nat.{_+_, _≤_};
+ghost use lib.ListN.{length};
+ghost use lib.Seq.{sets};
+ghost use Rattle.df1.specs.Frame as frame;
+ghost use Rattle.df1.specs.Parts.{dleCount};
+
+// How many of the bytes are a DLE.
+fn dle_count(bytes: &[u8]) -> usize
+    ensures { λ r. ⌜ r ≡ dleCount (now (bytes .entry)) ⌝ }
+{
+    let mut n: usize = 0;
+    let mut k: usize = 0;
+    while k < bytes.len() {
+        let b = bytes[k];
+        k = k + 1;
+        if b != DLE {
+            continue;
+        }
+        n = n + 1;
+    }
+    n
+}
+
+// The check byte of data: their sum, kept to eight bits by wrapping, and taken from zero.
+fn check_byte(bytes: &[u8]) -> u8
+    ensures { λ r. ⌜ r ≡ frame.checkByte (now (bytes .entry)) ⌝ }
+{
+    let mut sum: u8 = 0;
+    let mut k: usize = 0;
+    while k < bytes.len() {
+        sum = std::num::wrapping_add_u8(sum, bytes[k]);
+        k = k + 1;
+    }
+    complement(sum)
+}
+
+// A byte at a place, or twice from there on; the place after it.
+fn put(out: &mut [u8], at: usize, b: u8, twice: bool) -> usize
+    requires { ⌜ at + length (cond twice (b ∷ b ∷ []) (b ∷ [])) ≤ length (now out) ⌝ }
+    ensures { λ r. ⌜ (now (out .exit) ≡ sets (now (out .entry)) at (cond twice (b ∷ b ∷ []) (b ∷ []))) × (r ≡ at + length (cond twice (b ∷ b ∷ []) (b ∷ []))) ⌝ }
+{
+    out[at] = b;
+    if twice {
+        out[at + 1] = b;
+        return at + 2;
+    }
+    at + 1
+}
+
+// Data from a place on, each DLE twice; the place after them.
+fn put_doubled(out: &mut [u8], at: usize, bytes: &[u8]) -> usize
+    requires { ⌜ at + length (frame.doubled (now bytes)) ≤ length (now out) ⌝ }
+    ensures { λ r. ⌜ (now (out .exit) ≡ sets (now (out .entry)) at (frame.doubled (now (bytes .entry)))) × (r ≡ at + length (frame.doubled (now (bytes .entry)))) ⌝ }
+{
+    let mut place = at;
+    let mut k: usize = 0;
+    while k < bytes.len() {
+        let b = bytes[k];
+        place = put(out, place, b, b == DLE);
+        k = k + 1;
+    }
+    place
+}
+
+// The frame of data at the buffer's start. The check byte is never doubled.
+fn put_frame(out: &mut [u8], bytes: &[u8])
+    requires { ⌜ length (frame.frameOf (now bytes)) ≤ length (now out) ⌝ }
+    ensures { λ r. ⌜ now (out .exit) ≡ sets (now (out .entry)) 0 (frame.frameOf (now (bytes .entry))) ⌝ }
+{
+    let check = check_byte(bytes);
+    out[0] = DLE;
+    out[1] = STX;
+    let end = put_doubled(out, 2, bytes);
+    out[end] = DLE;
+    out[end + 1] = ETX;
+    put(out, end + 2, check, false);
+}
+
+// Puts the frame of 1 to 244 data bytes at the start of a lent buffer and leaves the rest. A refused call leaves all of it.
+pub fn write_frame(bytes: &[u8], out: &mut [u8]) -> Answer
+    ensures { λ r. ⌜ (r ≡ frame.writeAnswer (now (bytes .entry)) (length (now (out .entry)))) × (now (out .exit) ≡ frame.writeBuffer (now (bytes .entry)) (now (out .entry))) ⌝ }
+{
+    if !is_allowed(bytes.len()) {
+        return refused(Refusal::DataLength);
+    }
+    let answer = fitting(bytes.len() + dle_count(bytes) + 5, out.len());
+    if answer.length == 0 {
+        return answer;
+    }
+    put_frame(out, bytes);
+    answer
+}

@@ -39,8 +39,12 @@ module _ (body : List ℕ) (x y z : ℕ) where
 -- the last three bytes
 last-three : (rest : List ℕ) (k : ℕ) → length rest ≡ k + 3 → drop k rest ≡ getD rest k 0 ∷ getD rest (suc k) 0 ∷ getD rest (suc (suc k)) 0 ∷ []
 last-three rest k e =
-    rw (drop-cons rest k 0 (omega arith), drop-cons rest (suc k) 0 (omega arith), drop-cons rest (suc (suc k)) 0 (omega arith),
-    drop-of-length-le rest {i = suc (suc (suc k))} (omega arith))
+    rw (
+      drop-cons rest k 0 (omega arith),
+      drop-cons rest (suc k) 0 (omega arith),
+      drop-cons rest (suc (suc k)) 0 (omega arith),
+      drop-of-length-le rest {i = suc (suc (suc k))} (omega arith),
+    )
 
 -- an input of five bytes or more is made of its parts
 split-by : (input : List ℕ) (k : ℕ) → length input ≡ k + 5
@@ -90,9 +94,11 @@ unfolding framed frameOf
 frame-framed bytes =
     let l = whole-length (doubled bytes) dle etx (checkByte bytes) in
     let w = whole (doubled bytes) dle etx (checkByte bytes) in
-    simp (le-leb 5 (length w) (omega (arith, l)),
-    eq-eqb (getD w (length w - 3) 0) dle (whole-at (doubled bytes) dle etx (checkByte bytes) 0 (length w - 3) (omega (arith, l))),
-    eq-eqb (getD w (length w - 2) 0) etx (whole-at (doubled bytes) dle etx (checkByte bytes) 1 (length w - 2) (omega (arith, l))))
+    simp (
+      le-leb 5 (length w) (omega (arith, l)),
+      eq-eqb (getD w (length w - 3) 0) dle (whole-at (doubled bytes) dle etx (checkByte bytes) 0 (length w - 3) (omega (arith, l))),
+      eq-eqb (getD w (length w - 2) 0) etx (whole-at (doubled bytes) dle etx (checkByte bytes) 1 (length w - 2) (omega (arith, l))),
+    )
 
 -- what the tests say of an input
 pub framed-parts : (input : List ℕ) → framed input ≡ true → input ≡ dle ∷ stx ∷ inside input ++ dle ∷ etx ∷ lastOf input ∷ []
@@ -107,8 +113,12 @@ framed-parts input h =
     let h3 = and-left (n && a && b) c h4 in
     let h2 = and-left (n && a) b h3 in
     split input (leb-true 5 (length input) (and-left n a h2))
-    ∙ rw (eqb-true (getD input 0 0) dle (and-right n a h2), eqb-true (getD input 1 0) stx (and-right (n && a) b h3),
-    eqb-true (getD input (length input - 3) 0) dle (and-right (n && a && b) c h4), eqb-true (getD input (length input - 2) 0) etx (and-right (n && a && b && c) d h))
+    ∙ rw (
+      eqb-true (getD input 0 0) dle (and-right n a h2),
+      eqb-true (getD input 1 0) stx (and-right (n && a) b h3),
+      eqb-true (getD input (length input - 3) 0) dle (and-right (n && a && b) c h4),
+      eqb-true (getD input (length input - 2) 0) etx (and-right (n && a && b && c) d h),
+    )
 
 -- a frame's data
 pub frame-data : (bytes : List ℕ) → dataOf (frameOf bytes) ≡ bytes
@@ -136,8 +146,11 @@ same-frame input =
     passes : same input (frameOf bytes) ≡ true → framed input && paired (inside input) && eqb (lastOf input) (checkByte bytes) ≡ true
     passes h =
         let e = same-true input (frameOf bytes) h in
-        rw (ap framed e ∙ frame-framed bytes, ap paired (ap inside e ∙ frame-inside bytes) ∙ paired-doubled bytes,
-        eq-eqb (lastOf input) (checkByte bytes) (ap lastOf e ∙ frame-last bytes))
+        rw (
+          ap framed e ∙ frame-framed bytes,
+          ap paired (ap inside e ∙ frame-inside bytes) ∙ paired-doubled bytes,
+          eq-eqb (lastOf input) (checkByte bytes) (ap lastOf e ∙ frame-last bytes),
+        )
 
     makes : framed input && paired (inside input) && eqb (lastOf input) (checkByte bytes) ≡ true → same input (frameOf bytes) ≡ true
     makes h =
@@ -233,7 +246,7 @@ module _ (input : List ℕ) where
   pub frame-paired : isFrame input ≡ true → (framed input ≡ true) × (paired (inside input) ≡ true)
   frame-paired h =
       let t = and-left (framed input && paired (inside input)) (eqb (lastOf input) (checkByte (dataOf input)))
-              (and-left (framed input && paired (inside input) && eqb (lastOf input) (checkByte (dataOf input))) (allowed (length (dataOf input))) (sym tests ∙ h)) in
+      (and-left (framed input && paired (inside input) && eqb (lastOf input) (checkByte (dataOf input))) (allowed (length (dataOf input))) (sym tests ∙ h)) in
       (and-left (framed input) (paired (inside input)) t, and-right (framed input) (paired (inside input)) t)
 
 pub framed-long : (input : List ℕ) → framed input ≡ true → 5 ≤ length input

@@ -1,2 +1,3 @@
 pub mod Frame
 pub mod Parts
+pub mod Cases

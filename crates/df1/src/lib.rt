@@ -8,11 +8,14 @@ ghost use mathlib.Core.Path.{_≡_};
 ghost use Rattle.df1.specs.Frame as frame;
 
 pub const DLE: u8 = 16;
+
 pub const STX: u8 = 2;
+
 pub const ETX: u8 = 3;
 
 // The most data bytes of a frame, and the most bytes of a frame.
 pub const MOST_DATA: usize = 244;
+
 pub const LONGEST_FRAME: usize = 493;
 
 // Why a call was turned away: 15, 16 and 17 of document 02.

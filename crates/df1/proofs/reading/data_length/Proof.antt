@@ -51,7 +51,7 @@ is-allowed-requires : tie.Need-is-allowed-requires
 is-allowed-requires c κs = search needs
 
 returns-2 : tie.Need-returns-2
-returns-2 c = 
+returns-2 c =
     sym (found-not-allowed (c .before .before .before .before .before .before .before .args .input .now)
     (ap (λ (s : Scan). allowed (s .count)) (sym (scanned (c .before .before))) ∙ sym (c .before .is-allowed .ensures) ∙ not-true (c .before .is-allowed .result) (c .if2 .taken)))
 
@@ -65,12 +65,12 @@ complement-requires : tie.Need-complement-requires
 complement-requires c κs = search needs
 
 returns-3 : tie.Need-returns-3
-returns-3 c = 
+returns-3 c =
     let input = c .before .before .before .before .before .before .before .before .before .before .args .input .now in
     sym (found-other-check input (λ h. c .if3 .taken (last-place input (omega (arith, long (c .before .before .before .before .before .before .before))) ∙ h ∙ sym (checked (c .before)))))
 
 returns-4 : tie.Need-returns-4
-returns-4 c = 
+returns-4 c =
     let input = c .before .before .before .before .before .before .before .before .before .before .args .input .now in
     let s = scanned (c .before .before .before .before .before) in
     let a = c .before .before .before .before .is-allowed in

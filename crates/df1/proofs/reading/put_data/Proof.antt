@@ -40,7 +40,7 @@ loop-less : tie.Need-loop-less Inv-loop μ-loop
 loop-less c = omega arith
 
 loop-again : tie.Need-loop-again Inv-loop μ-loop
-loop-again c = 
+loop-again c =
     let l = c .before .before .before .loop in
     let a = c .before .before .before .before .args in
     let within = c .before .before .loop-test .taken in
@@ -59,7 +59,7 @@ loop-less-2 : tie.Need-loop-less-2 Inv-loop μ-loop
 loop-less-2 c = omega arith
 
 loop-again-2 : tie.Need-loop-again-2 Inv-loop μ-loop
-loop-again-2 c = 
+loop-again-2 c =
     let l = c .before .before .before .loop in
     let a = c .before .before .before .before .args in
     let within = c .before .before .loop-test .taken in
@@ -77,7 +77,7 @@ same-length c = c .before .loop .inv .1
 
 returns : tie.Need-returns Inv-loop μ-loop
 unfolding undoubled
-returns c = 
+returns c =
     let l = c .before .loop in
     let d = drop-of-length-le (c .before .before .args .body .now) (c .loop-test .left) in
     rw d at (l .inv .3)

@@ -44,7 +44,7 @@ refused-requires c κs = search needs
 
 returns : tie.Need-returns
 unfolding readAnswer readBuffer answerOf bufferAfter
-returns c = 
+returns c =
     let a = c .before .before .before .before .before .args in
     let o = read-no-frame (a .input .now) (length (a .out .now)) (no-frame (a .input .now) (sym (c .before .before .data-length .ensures) ∙ c .before .if1 .taken)) in
     (c .refused .ensures ∙ rw o, rw o)
@@ -54,7 +54,7 @@ fitting-requires c κs = search needs
 
 returns-2 : tie.Need-returns-2
 unfolding readAnswer readBuffer bufferAfter
-returns-2 c = 
+returns-2 c =
     let a = c .before .before .before .before .before .before .before .args in
     let n = length (dataOf (a .input .now)) in
     let h = fitted (c .before .before) in
@@ -76,7 +76,7 @@ part-put-data-end c = search needs
 
 put-data-requires : tie.Need-put-data-requires
 unfolding dataOf
-put-data-requires c κs = 
+put-data-requires c κs =
     let input = c .before .before .before .before .before .before .before .before .before .args .input .now in
     (ap paired (inside-part input) ∙ frame-paired input (is-frame (c .before .before .before .before .before)) .1, rw (← inside-part input) at (whole (c .before .before) .1))
 
@@ -85,12 +85,13 @@ same-length c = search needs
 
 returns-3 : tie.Need-returns-3
 unfolding readAnswer readBuffer bufferAfter dataOf
-returns-3 c = 
+returns-3 c =
     let a = c .before .before .before .before .before .before .before .before .before .before .before .before .args in
     let r = read-frame (a .input .now) (length (a .out .now)) (is-frame (c .before .before .before .before .before .before .before .before)) in
-    let fit = whole (c .before .before .before .before .before) in
-    (fitted (c .before .before .before .before .before .before .before) ∙ rw r,
-    c .before .before .put-data .ensures ∙ ap (λ (body : List ℕ). sets (a .out .now) 0 (undoubled body)) (inside-part (a .input .now)) ∙ sets-start (a .out .now) (dataOf (a .input .now)) (fit .1) ∙ rw (r, fit .0))
+    let fit = whole (c .before .before .before .before .before) in (
+      fitted (c .before .before .before .before .before .before .before) ∙ rw r,
+      c .before .before .put-data .ensures ∙ ap (λ (body : List ℕ). sets (a .out .now) 0 (undoubled body)) (inside-part (a .input .now)) ∙ sets-start (a .out .now) (dataOf (a .input .now)) (fit .1) ∙ rw (r, fit .0),
+    )
 
 pub read-frame-spec : {M : Type 1} → statement M
 read-frame-spec =

@@ -41,7 +41,7 @@ loop-less c = omega arith
 
 loop-again : tie.Need-loop-again Inv-loop μ-loop
 unfolding sumOf
-loop-again c = 
+loop-again c =
     let l = c .before .before .before .before .loop in
     let body = c .before .before .before .before .before .before .args .body .now in
     let within = c .before .before .before .loop-test .taken in
@@ -57,7 +57,7 @@ loop-again c =
 
 returns : tie.Need-returns Inv-loop μ-loop
 unfolding scanOf
-returns c = 
+returns c =
     let l = c .before .before .before .before .loop in
     rw (sym (l .inv .3) ∙ paired-end (c .before .before .before .before .before .before .args .body .now) (l .at) (c .before .before .before .loop-test .taken) (c .before .if1 .left) (c .if2 .taken))
 
@@ -66,7 +66,7 @@ shared-slice-read-if3 c = omega arith
 
 returns-2 : tie.Need-returns-2 Inv-loop μ-loop
 unfolding scanOf
-returns-2 c = 
+returns-2 c =
     let l = c .before .before .before .before .before .before .loop in
     rw (sym (l .inv .3) ∙ paired-one (c .before .before .before .before .before .before .before .before .args .body .now) (l .at) (c .before .before .before .before .before .loop-test .taken) (c .before .before .before .if1 .left) (c .before .before .if2 .left) (c .if3 .taken))
 
@@ -81,7 +81,7 @@ loop-less-2 c = omega arith
 
 loop-again-2 : tie.Need-loop-again-2 Inv-loop μ-loop
 unfolding sumOf
-loop-again-2 c = 
+loop-again-2 c =
     let l = c .before .before .before .before .before .before .before .loop in
     let body = c .before .before .before .before .before .before .before .before .before .args .body .now in
     let within = c .before .before .before .before .before .before .loop-test .taken in
@@ -97,7 +97,7 @@ loop-again-2 c =
 
 returns-3 : tie.Need-returns-3 Inv-loop μ-loop
 unfolding scanOf paired undoubled sumOf
-returns-3 c = 
+returns-3 c =
     let l = c .before .loop in
     let body = c .before .before .before .args .body .now in
     let d = drop-of-length-le body (c .loop-test .left) in

@@ -31,7 +31,7 @@ loop-less : tie.Need-loop-less Inv-loop μ-loop
 loop-less c = search needs
 
 loop-again : tie.Need-loop-again Inv-loop μ-loop
-loop-again c = 
+loop-again c =
     let l = c .before .before .before .loop in
     let e = sum-next (c .before .before .before .before .before .args .bytes .now) (l .k) (c .before .before .loop-test .taken) in
     (omega arith, omega (arith, c .wrapping-add-u8 .ensures, e, l .inv .1), omega (arith, c .wrapping-add-u8 .ensures))
@@ -41,7 +41,7 @@ complement-requires c κs = search needs
 
 returns : tie.Need-returns Inv-loop μ-loop
 unfolding checkByte
-returns c = 
+returns c =
     let l = c .before .before .loop in
     let a = c .before .before .before .before .args in
     let e : l .k ≡ length (a .bytes .now) = omega (arith, c .before .loop-test .left, l .inv .0) in

@@ -29,7 +29,7 @@ loop-less : tie.Need-loop-less Inv-loop μ-loop
 loop-less c = search needs
 
 loop-again : tie.Need-loop-again Inv-loop μ-loop
-loop-again c = 
+loop-again c =
     let l = c .before .before .before .loop in
     let e = count-other (c .before .before .before .before .args .bytes .now) (l .k) (c .before .before .loop-test .taken) (c .if1 .taken) in
     (omega arith, omega arith, omega (arith, e, l .inv .2))
@@ -41,14 +41,14 @@ loop-less-2 : tie.Need-loop-less-2 Inv-loop μ-loop
 loop-less-2 c = search needs
 
 loop-again-2 : tie.Need-loop-again-2 Inv-loop μ-loop
-loop-again-2 c = 
+loop-again-2 c =
     let l = c .before .before .before .loop in
     let e = count-dle (c .before .before .before .before .args .bytes .now) (l .k) (c .before .before .loop-test .taken) (c .if1 .left) in
     (omega arith, omega arith, omega (arith, e, l .inv .2))
 
 returns : tie.Need-returns Inv-loop μ-loop
 unfolding dleCount
-returns c = 
+returns c =
     let l = c .before .loop in
     let e : l .k ≡ length (c .before .before .args .bytes .now) = omega arith in
     let z = rw (e, drop-length) at (l .inv .2) in

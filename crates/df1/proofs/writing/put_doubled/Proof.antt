@@ -26,7 +26,7 @@ shared-slice-read-b c = search needs
 
 put-requires : tie.Need-put-requires Inv-loop μ-loop
 unfolding sent
-put-requires c κs = 
+put-requires c κs =
     let l = c .before .before .before .loop in
     let e = doubled-next (c .before .before .before .before .before .before .args .bytes .now) (l .k) (c .before .before .loop-test .taken) in
     omega (arith, simp length-append at (ap length e), l .inv)
@@ -39,7 +39,7 @@ loop-less c = search needs
 
 loop-again : tie.Need-loop-again Inv-loop μ-loop
 unfolding sent
-loop-again c = 
+loop-again c =
     let l = c .before .before .before .before .before .before .loop in
     let a = c .before .before .before .before .before .before .before .before .before .args in
     let b = getD (a .bytes .now) (l .k) 0 in
@@ -47,7 +47,7 @@ loop-again c =
       omega (arith, c .before .before .before .before .before .loop-test .taken),
       rw (c .before .before .put .ensures .0) (length-sets (l .out) (l .place) (sent b) ∙ l .inv .1),
       rw (c .before .before .put .ensures .0, c .before .before .put .ensures .1)
-      (sym (sets-append (l .out) (l .place) (sent b) (doubled (drop (l .k + 1) (a .bytes .now)))) ∙ ap (sets (l .out) (l .place)) (sym e) ∙ l .inv .2),
+          (sym (sets-append (l .out) (l .place) (sent b) (doubled (drop (l .k + 1) (a .bytes .now)))) ∙ ap (sets (l .out) (l .place)) (sym e) ∙ l .inv .2),
       omega (arith, simp length-append at (ap length e), l .inv .3, c .before .before .put .ensures .1),
       l .inv .4,
     )
@@ -56,7 +56,7 @@ same-length : tie.Need-same-length Inv-loop μ-loop
 same-length c = search needs
 
 returns : tie.Need-returns Inv-loop μ-loop
-returns c = 
+returns c =
     let l = c .before .loop in
     let a = c .before .before .before .before .args in
     let e : l .k ≡ length (a .bytes .now) = omega (arith, l .inv .0, c .loop-test .left) in

@@ -46,12 +46,12 @@ put-requires : tie.Need-put-requires
 put-requires c κs = simp length-set (omega (arith, ended (c .before .before .before) .0))
 
 same-length : tie.Need-same-length
-same-length c = 
+same-length c =
     let l : length (c .before .before .put .last .0) ≡ length (c .before .before .before .before .before .before .before .before .before .before .before .args .out .now) = rw (c .before .before .put .ensures .0) (simp length-set (ended (c .before .before .before .before .before .before) .1)) in
     l
 
 returns : tie.Need-returns
-returns c = 
+returns c =
     let a = c .before .before .before .before .before .before .before .before .before .before .before .args in
     let d = c .before .before .before .before .before .before .put-doubled in
     c .before .before .put .ensures .0

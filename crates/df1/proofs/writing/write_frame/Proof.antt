@@ -29,8 +29,8 @@ short c =
 fitted : (c : tie.After-fitting) → c .fitting .result ≡ answerOf (fits (length (frameOf (c .before .before .before .before .before .before .args .bytes .now))) (length (c .before .before .before .before .before .before .args .out .now))) (length (frameOf (c .before .before .before .before .before .before .args .bytes .now)))
 fitted c =
     let bytes = c .before .before .before .before .before .before .args .bytes .now in
-    let e : length bytes + c .before .dle-count .result + 5 ≡ length (frameOf bytes) = omega (arith, frame-size bytes, c .before .dle-count .ensures) in
-    rw e at (c .fitting .ensures)
+    let room = length (c .before .before .before .before .before .before .args .out .now) in
+    c .fitting .ensures ∙ ap (λ (n : ℕ). answerOf (fits n room) n) (omega (arith, frame-size bytes, c .before .dle-count .ensures))
 
 whole : (c : tie.Else2) → (fits (length (frameOf (c .before .before .before .before .before .before .before .before .args .bytes .now))) (length (c .before .before .before .before .before .before .before .before .args .out .now)) ≡ Accepted) × (length (frameOf (c .before .before .before .before .before .before .before .before .args .bytes .now)) ≤ length (c .before .before .before .before .before .before .before .before .args .out .now))
 whole c =
@@ -44,7 +44,7 @@ refused-requires c κs = search needs
 
 returns : tie.Need-returns
 unfolding writeAnswer writeBuffer answerOf bufferAfter
-returns c = 
+returns c =
     let a = c .before .before .before .before .before .args in
     let o = write-not-allowed (a .bytes .now) (length (a .out .now)) (sym (c .before .before .is-allowed .ensures) ∙ not-true (c .before .before .is-allowed .result) (c .before .if1 .taken)) in
     (c .refused .ensures ∙ rw o, rw o)
@@ -63,7 +63,7 @@ fitting-requires c κs = search needs
 
 returns-2 : tie.Need-returns-2
 unfolding writeAnswer writeBuffer bufferAfter
-returns-2 c = 
+returns-2 c =
     let a = c .before .before .before .before .before .before .before .before .args in
     let n = length (frameOf (a .bytes .now)) in
     let h = fitted (c .before .before) in
@@ -79,7 +79,7 @@ same-length c = search needs
 
 returns-3 : tie.Need-returns-3
 unfolding writeAnswer writeBuffer bufferAfter
-returns-3 c = 
+returns-3 c =
     let a = c .before .before .before .before .before .before .before .before .before .before .before .before .args in
     let w = write-allowed (a .bytes .now) (length (a .out .now)) (is-allowed-then (c .before .before .before .before .before .before .before .before)) in
     let fit = whole (c .before .before .before .before) in

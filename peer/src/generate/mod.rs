@@ -7,6 +7,8 @@ mod call_list;
 mod coverage;
 mod cycle_lists;
 mod file_kind;
+#[cfg(test)]
+mod frame_coverage;
 mod frame_lists;
 mod frame_parts;
 mod ladder;

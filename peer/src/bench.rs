@@ -1,8 +1,10 @@
-//! Steps from memory with a checksum over their answers, to measure their
-//! time. docs/BENCH.md has the programming, the samples and the checksum.
+//! Steps and frames from memory with a checksum over their answers, to
+//! measure their time. docs/BENCH.md has the programming, the samples, the
+//! frames and the checksum.
 
 use crate::blocks::{group_block_at, limit_block_at, GROUP_BLOCK_WORDS, LIMIT_BLOCK_WORDS};
 use crate::cycles::{Answer, GROUP_COMMAND, M0_WORDS, M1_WORDS, TRANSMIT};
+use crate::df1::{read_frame, write_frame, LONGEST_FRAME, MOST_DATA};
 use crate::limit_block::PAIRS;
 use crate::module::Module;
 use crate::step::{StepAnswer, SAMPLE_WORDS};
@@ -75,6 +77,14 @@ pub struct Files {
 }
 
 impl Case {
+    pub fn of_name(name: &str) -> Option<Case> {
+        match name {
+            "a" => Some(FULL),
+            "b" => Some(SMALL),
+            _ => None,
+        }
+    }
+
     /// The files: each cycle is sent once and is accepted.
     pub fn files(&self) -> Files {
         let mut m0 = [0; M0_WORDS];
@@ -111,19 +121,23 @@ impl Case {
     }
 }
 
-/// The line that a bench prints for its arguments, a case and a number of
-/// steps, where `run` gives the checksum.
-pub fn line(arguments: &[&str], run: fn(&Case, u32) -> u32) -> Option<Vec<u8>> {
-    let [name, steps] = arguments else {
+/// The line that a bench prints for its arguments, a case and a count, where
+/// `run` gives the checksum of a case that it knows.
+pub fn line(arguments: &[&str], run: fn(&str, u32) -> Option<u32>) -> Option<Vec<u8>> {
+    let [name, count] = arguments else {
         return None;
     };
-    let case = match *name {
-        "a" => FULL,
-        "b" => SMALL,
-        _ => return None,
-    };
-    let checksum = run(&case, steps.parse().ok()?);
-    Some(format!("{name} {steps} {checksum}\n").into_bytes())
+    let checksum = run(name, count.parse().ok()?)?;
+    Some(format!("{name} {count} {checksum}\n").into_bytes())
+}
+
+/// The checksum of this many steps or frames of a case.
+pub fn run(name: &str, count: u32) -> Option<u32> {
+    match name {
+        "w" => Some(write_frames(count)),
+        "r" => Some(read_frames(count)),
+        _ => Some(Case::of_name(name)?.run(count)),
+    }
 }
 
 /// The sample of a step, counted from 0.
@@ -151,8 +165,46 @@ fn add(sum: u32, answer: &StepAnswer) -> u32 {
     )
 }
 
-/// The checksum with the three numbers of one more answer.
-pub fn checksum(sum: u32, numbers: [u32; 3]) -> u32 {
+/// The data of the first frame.
+fn first_data() -> [u8; MOST_DATA] {
+    std::array::from_fn(|place| (7 * place) as u8)
+}
+
+/// The checksum of this many frames written.
+fn write_frames(frames: u32) -> u32 {
+    let mut data = first_data();
+    let mut buffer = [0; LONGEST_FRAME];
+    (0..frames).fold(0, |sum, frame| {
+        let place = frame as usize % MOST_DATA;
+        data[place] = data[place].wrapping_add(1);
+        let length = write_frame(&data, &mut buffer).expect("a frame's data and buffer");
+        checksum(sum, [number(&buffer[..length], frame)])
+    })
+}
+
+/// The checksum of this many frames read.
+fn read_frames(readings: u32) -> u32 {
+    let mut buffer = [0; LONGEST_FRAME];
+    let length = write_frame(&first_data(), &mut buffer).expect("a frame's data and buffer");
+    let input = &mut buffer[..length];
+    let mut data = [0; MOST_DATA];
+    (0..readings).fold(0, |sum, reading| {
+        let place = 2 + reading as usize % 100;
+        input.swap(place, place + 1);
+        let length = read_frame(input, &mut data).expect("a frame and its buffer");
+        checksum(sum, [number(&data[..length], reading)])
+    })
+}
+
+/// The number of a frame or of its data, the one counted `count` from 0.
+fn number(bytes: &[u8], count: u32) -> u32 {
+    let place = count as usize % bytes.len();
+    let last = bytes[bytes.len() - 1];
+    (bytes.len() as u32) << 16 | u32::from(bytes[place]) << 8 | u32::from(last)
+}
+
+/// The checksum with the numbers of one more answer.
+pub fn checksum<const COUNT: usize>(sum: u32, numbers: [u32; COUNT]) -> u32 {
     numbers.iter().fold(sum, |sum, number| {
         sum.wrapping_mul(31).wrapping_add(*number)
     })

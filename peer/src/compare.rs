@@ -10,7 +10,8 @@ use std::thread;
 use std::time::{Duration, Instant};
 
 use crate::generate::{
-    cycle_list, damaged_trace, step_list, whole_trace, CallList, USUAL_SAMPLES, USUAL_STEPS,
+    cycle_list, damaged_trace, frame_list, step_list, whole_trace, CallList, USUAL_SAMPLES,
+    USUAL_STEPS,
 };
 
 /// Inputs compared at the same time.
@@ -25,6 +26,7 @@ const SHOWN: usize = 300;
 pub enum InputKind {
     Cycles,
     Steps,
+    Frames,
     Traces,
     Damaged,
 }
@@ -34,6 +36,7 @@ impl InputKind {
         [
             InputKind::Cycles,
             InputKind::Steps,
+            InputKind::Frames,
             InputKind::Traces,
             InputKind::Damaged,
         ]
@@ -45,6 +48,7 @@ impl InputKind {
         match self {
             InputKind::Cycles => "cycles",
             InputKind::Steps => "steps",
+            InputKind::Frames => "frames",
             InputKind::Traces => "traces",
             InputKind::Damaged => "damaged",
         }
@@ -54,6 +58,7 @@ impl InputKind {
         match self {
             InputKind::Cycles => Input::of_list(&cycle_list(seed)),
             InputKind::Steps => Input::of_list(&step_list(seed, USUAL_STEPS)),
+            InputKind::Frames => Input::of_list(&frame_list(seed)),
             InputKind::Traces => Input::of_trace(whole_trace(seed, USUAL_SAMPLES)),
             InputKind::Damaged => Input::of_trace(damaged_trace(seed)),
         }

@@ -1,6 +1,6 @@
-//! The limit switch card: programming cycles, step, block reader and trace
-//! program. Written from document 01 and the 8500 manual, to be compared
-//! with the other implementation.
+//! The limit switch card: programming cycles, step, block reader, frames of
+//! the serial link and trace program. Written from documents 01 and 02 and
+//! the 8500 manual, to be compared with the other implementation.
 
 mod cycles;
 mod step;
@@ -9,6 +9,7 @@ pub mod bench;
 pub mod blocks;
 pub mod camrun;
 pub mod compare;
+pub mod df1;
 pub mod generate;
 pub mod group;
 pub mod leaves;

@@ -19,6 +19,9 @@ pub enum Refusal {
     NudgeNumber = 9,
     NudgeSetpoint = 10,
     TransducerFault = 11,
+    FrameData = 15,
+    FrameBuffer = 16,
+    FrameForm = 17,
 }
 
 impl Refusal {

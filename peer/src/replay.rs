@@ -4,7 +4,8 @@ use std::io::{self, BufRead, Write};
 
 use crate::blocks::{read_block, Block};
 use crate::cycles::{Answer, M0_WORDS, M1_WORDS};
-use crate::module::Module;
+use crate::df1::{read_frame, write_frame};
+use crate::module::{Module, Refusal};
 use crate::step::{StepAnswer, SAMPLE_WORDS};
 use crate::words::Words;
 
@@ -41,6 +42,62 @@ static LIMIT: FileCycle = FileCycle {
     status_end: 650,
 };
 
+/// What a byte of a lent buffer is before a call.
+const UNTOUCHED: u8 = 0xee;
+
+/// Writes or reads a frame into a lent buffer.
+type FrameFunction = fn(&[u8], &mut [u8]) -> Result<usize, Refusal>;
+
+/// A frame to be written or read.
+pub struct FrameCall {
+    pub(crate) name: &'static str,
+    call: FrameFunction,
+    pub(crate) capacity: u16,
+    pub(crate) words: Vec<u16>,
+}
+
+impl FrameCall {
+    /// What follows opcode 9; None where it is cut short.
+    pub fn write(words: &mut Words<impl BufRead>) -> Option<FrameCall> {
+        FrameCall::of("frame", write_frame, words)
+    }
+
+    /// What follows opcode 10; None where it is cut short.
+    pub fn read(words: &mut Words<impl BufRead>) -> Option<FrameCall> {
+        FrameCall::of("data", read_frame, words)
+    }
+
+    fn of(
+        name: &'static str,
+        call: FrameFunction,
+        words: &mut Words<impl BufRead>,
+    ) -> Option<FrameCall> {
+        Some(FrameCall {
+            name,
+            call,
+            capacity: words.next_word()?,
+            words: read_file(words)?,
+        })
+    }
+
+    /// Makes the call and writes its line.
+    pub fn make(&self, output: &mut impl Write) -> io::Result<()> {
+        let mut buffer = vec![UNTOUCHED; usize::from(self.capacity)];
+        let (refusal, length) = match (self.call)(&self.bytes(), &mut buffer) {
+            Ok(length) => (0, length),
+            Err(refusal) => (refusal.number(), 0),
+        };
+        write!(output, "{} {refusal} {length}", self.name)?;
+        write_bytes(&buffer, output)?;
+        writeln!(output)
+    }
+
+    /// The low bytes of the words.
+    pub(crate) fn bytes(&self) -> Vec<u8> {
+        self.words.iter().map(|&word| word as u8).collect()
+    }
+}
+
 /// One call of the list.
 pub(crate) enum Call {
     PowerUp(u16),
@@ -48,6 +105,7 @@ pub(crate) enum Call {
     Nudge(u16),
     Step([u16; SAMPLE_WORDS]),
     Block(Block, Vec<u16>, Vec<u16>),
+    Frame(FrameCall),
 }
 
 /// The next call, or None for an unknown opcode or a call cut short.
@@ -72,6 +130,8 @@ pub(crate) fn read_call(words: &mut Words<impl BufRead>) -> Option<Call> {
             };
             Call::Block(block, read_file(words)?, read_file(words)?)
         }
+        9 => Call::Frame(FrameCall::write(words)?),
+        10 => Call::Frame(FrameCall::read(words)?),
         _ => return None,
     })
 }
@@ -109,6 +169,7 @@ pub(crate) fn make_call(
             write_words(part, output)?;
             writeln!(output)
         }
+        (Call::Frame(frame), _) => frame.make(output),
         (_, None) => writeln!(output, "none"),
         (Call::File(kind, mut file), Some(module)) => {
             let answer = (kind.cycle)(module, &mut file);
@@ -142,6 +203,16 @@ fn write_words(words: &[u16], output: &mut impl Write) -> io::Result<()> {
     words
         .iter()
         .try_for_each(|word| write!(output, " {word:04x}"))
+}
+
+/// A space and the bytes in one piece; nothing where there are none.
+fn write_bytes(bytes: &[u8], output: &mut impl Write) -> io::Result<()> {
+    if !bytes.is_empty() {
+        write!(output, " ")?;
+    }
+    bytes
+        .iter()
+        .try_for_each(|byte| write!(output, "{byte:02x}"))
 }
 
 fn write_cycle(

@@ -1,5 +1,5 @@
 //! The checksum of the bench, made again from the replay program's lines
-//! with the programming and samples of docs/BENCH.md.
+//! with the programming, samples and frames of docs/BENCH.md.
 
 mod common;
 
@@ -79,12 +79,63 @@ fn lines(programming: &Programming, steps: u64) -> Vec<Vec<String>> {
             0,
         ]);
     }
+    fields_of(&list)
+}
+
+/// The fields of the replay program's lines.
+fn fields_of(list: &CallList) -> Vec<Vec<String>> {
     let mut output = Vec::new();
     replay::run(&list.bytes()[..], &mut output).expect("writing to memory");
     let text = String::from_utf8(output).expect("text");
     text.lines()
         .map(|line| line.split(' ').map(String::from).collect())
         .collect()
+}
+
+/// The replay program's lines for the frames of case w.
+fn written(frames: usize) -> Vec<Vec<String>> {
+    let mut list = CallList::default();
+    let mut data: Vec<u16> = (0..244).map(|k| 7 * k % 256).collect();
+    for i in 0..frames {
+        data[i % 244] = (data[i % 244] + 1) % 256;
+        list.write_frame(493, &data);
+    }
+    fields_of(&list)
+}
+
+/// The replay program's lines for the readings of case r.
+fn readings(count: usize) -> Vec<Vec<String>> {
+    let mut list = CallList::default();
+    let data: Vec<u16> = (0..244).map(|k| 7 * k % 256).collect();
+    // Byte 112 is a DLE: 784 is 3 × 256 + 10h. The sum of all is 30,114, which
+    // is 117 × 256 + 162, so that the check byte is 94.
+    let input = [
+        &[0x10, 0x02][..],
+        &data[..112],
+        &[0x10, 0x10],
+        &data[113..],
+        &[0x10, 0x03, 94],
+    ];
+    let mut input = input.concat();
+    assert_eq!(input.len(), 250);
+    for i in 0..count {
+        input.swap(2 + i % 100, 3 + i % 100);
+        list.read_frame(244, &input);
+    }
+    fields_of(&list)
+}
+
+/// The checksum of case w or r.
+fn frame_checksum(lines: &[Vec<String>]) -> u64 {
+    lines.iter().enumerate().fold(0, |sum, (i, fields)| {
+        assert_eq!(fields[1], "0");
+        let length: usize = fields[2].parse().expect("decimal");
+        let byte = |place: usize| {
+            u64::from_str_radix(&fields[3][2 * place..2 * place + 2], 16).expect("hexadecimal")
+        };
+        let number = 65536 * length as u64 + 256 * byte(i % length) + byte(length - 1);
+        (31 * sum + number) % 4_294_967_296
+    })
 }
 
 fn checksum(steps: &[Vec<String>]) -> u64 {
@@ -123,6 +174,40 @@ fn checksums_are_those_of_the_replay_program() {
             assert_eq!(bench(case, steps), expected);
         }
     }
+}
+
+#[test]
+fn checksums_of_frames_are_those_of_the_replay_program() {
+    for count in [0, 1, 1000] {
+        let checksum = frame_checksum(&written(count));
+        assert_eq!(bench("w", count as u64), format!("w {count} {checksum}\n"));
+        let checksum = frame_checksum(&readings(count));
+        assert_eq!(bench("r", count as u64), format!("r {count} {checksum}\n"));
+    }
+}
+
+/// By hand: in the first frame data byte 0 is 1, so that the check byte is
+/// 93; its first byte is 10h. In the first reading bytes 0 and 1 change
+/// places, so that byte 0 is 7; the last is 7 × 243 mod 256, 165.
+#[test]
+fn first_frame_by_hand() {
+    let written = 65536 * 250 + 256 * 0x10 + 93;
+    assert_eq!(bench("w", 1), format!("w 1 {written}\n"));
+    let read = 65536 * 244 + 256 * 7 + 165;
+    assert_eq!(bench("r", 1), format!("r 1 {read}\n"));
+}
+
+/// Frames of many lengths are written, and data in many orders read.
+#[test]
+fn frames_of_the_bench_differ() {
+    let lines = written(4000);
+    let lengths: BTreeSet<&String> = lines.iter().map(|fields| &fields[2]).collect();
+    assert!(lengths.len() > 1);
+    let buffers: BTreeSet<&String> = lines.iter().map(|fields| &fields[3]).collect();
+    assert_eq!(buffers.len(), 4000);
+    let lines = readings(1000);
+    let buffers: BTreeSet<&String> = lines.iter().map(|fields| &fields[3]).collect();
+    assert_eq!(buffers.len(), 1000);
 }
 
 /// A bench in which nothing happens measures nothing.

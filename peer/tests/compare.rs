@@ -57,6 +57,14 @@ fn replay_agrees_with_itself() {
     let steps = compare(&["steps", "3", "1", REPLAY, REPLAY]);
     assert_eq!(totals(&steps)[2], 3 * 5200);
     assert_eq!(steps.status.code(), Some(0));
+
+    let frames = compare(&["frames", "10", "1", REPLAY, REPLAY]);
+    let [lists, calls, steps, differences] = totals(&frames)[..] else {
+        panic!("four numbers");
+    };
+    assert_eq!((lists, steps, differences), (10, 0, 0));
+    assert!(calls > 10 * 30);
+    assert_eq!(frames.status.code(), Some(0));
 }
 
 #[test]
@@ -84,6 +92,13 @@ fn a_changed_line_is_reported() {
     assert_eq!(first, "cycles seed 4: line 20 differs");
     let line = a.strip_prefix("  A \"").expect("line of A");
     assert_eq!(b, format!("  B \"other {line}"));
+}
+
+#[test]
+fn a_changed_line_of_a_frame_is_reported() {
+    let output = compare(&["frames", "1", "2", REPLAY, &program("changed_line")]);
+    assert_eq!(output.status.code(), Some(1));
+    assert!(text(&output).starts_with("frames seed 2: line 20 differs\n"));
 }
 
 #[test]

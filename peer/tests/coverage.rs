@@ -1,11 +1,13 @@
-//! What the lists of cycles reach: every answer, every status bit.
+//! What the lists of cycles reach: every answer, every status bit. What the
+//! lists of frames are answered.
 
 use std::collections::BTreeMap;
 
-use peer::generate::cycle_list;
+use peer::generate::{cycle_list, frame_list, CallList};
 use peer::replay;
 
 const LISTS: usize = 2000;
+const FRAME_LISTS: u64 = 500;
 
 /// How often something was seen.
 #[derive(Default)]
@@ -35,9 +37,9 @@ impl Counts {
     }
 }
 
-fn answers(seed: u64) -> String {
+fn answers(list: &CallList) -> String {
     let mut output = Vec::new();
-    replay::run(&cycle_list(seed).bytes()[..], &mut output).expect("writing to memory");
+    replay::run(&list.bytes()[..], &mut output).expect("writing to memory");
     String::from_utf8(output).expect("text")
 }
 
@@ -81,7 +83,7 @@ fn lists_of_cycles_reach_every_answer() {
     let (mut calls, mut words, mut lists) =
         (Counts::default(), Counts::default(), Counts::default());
     for seed in 0..LISTS as u64 {
-        let text = answers(seed);
+        let text = answers(&cycle_list(seed));
         let mut accepted = vec![];
         for line in text.lines() {
             let fields: Vec<&str> = line.split(' ').collect();
@@ -128,20 +130,46 @@ fn assert_status_words(words: &Counts) {
 }
 
 #[test]
+fn lists_of_frames_reach_every_answer() {
+    let mut calls = Counts::default();
+    for seed in 1..=FRAME_LISTS {
+        for line in answers(&frame_list(seed)).lines() {
+            let fields: Vec<&str> = line.split(' ').collect();
+            calls.add(answer_of(&fields));
+        }
+    }
+    calls.print();
+    calls.assert_all_seen(names("power", "0 3"));
+    calls.assert_all_seen(names("nudge", "idle 5"));
+    calls.assert_all_seen(["none".to_string()]);
+    let seen_often = names("frame", "0 15 16").chain(names("data", "0 16 17"));
+    let mut frame_calls = 0;
+    for name in seen_often {
+        assert!(calls.of(&name) > 300, "seldom seen: {name}");
+        frame_calls += calls.of(&name);
+    }
+    assert!(frame_calls >= 20_000);
+    assert!(calls.of("bad") > FRAME_LISTS as usize / 20);
+}
+
+#[test]
 fn a_seed_gives_one_list_and_another_seed_another() {
-    assert_eq!(cycle_list(7), cycle_list(7));
-    assert_ne!(cycle_list(7).bytes(), cycle_list(8).bytes());
+    for list in [cycle_list, frame_list] {
+        assert_eq!(list(7), list(7));
+        assert_ne!(list(7).bytes(), list(8).bytes());
+    }
 }
 
 /// A list that is broken off ends with `bad`, no other has it.
 #[test]
 fn every_call_is_answered() {
     for seed in 0..200 {
-        let list = cycle_list(seed);
-        assert_eq!(list.steps(), 0);
-        let answers = answers(seed);
-        assert_eq!(answers.lines().count(), list.lines());
-        let bad = answers.lines().position(|line| line == "bad");
-        assert!(bad.is_none_or(|bad| bad + 1 == list.lines()));
+        for list in [cycle_list(seed), frame_list(seed)] {
+            assert_eq!(list.steps(), 0);
+            let answers = answers(&list);
+            assert_eq!(answers.lines().count(), list.lines());
+            let bad = answers.lines().position(|line| line == "bad");
+            assert!(bad.is_none_or(|bad| bad + 1 == list.lines()));
+        }
     }
 }

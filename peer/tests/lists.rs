@@ -40,7 +40,21 @@ fn lists_of_steps_have_as_many_as_asked_for() {
 }
 
 #[test]
+fn lists_of_frames_have_both_calls() {
+    // A seed whose list is not broken off.
+    let text = answers(&["frames", "2"]);
+    for name in ["frame ", "data "] {
+        let lines = text.lines().filter(|line| line.starts_with(name));
+        assert!(lines.count() > 4, "{name}");
+    }
+    assert_eq!(steps(&text), 0);
+}
+
+#[test]
 fn lists_repeat() {
+    let list = written(LISTS, &["frames", "9"]);
+    assert_eq!(written(LISTS, &["frames", "9"]), list);
+    assert_ne!(written(LISTS, &["frames", "10"]), list);
     let list = written(LISTS, &["steps", "9", "500"]);
     assert_eq!(written(LISTS, &["steps", "9", "500"]), list);
     assert_ne!(written(LISTS, &["steps", "10", "500"]), list);
@@ -61,11 +75,13 @@ fn wrong_arguments_show_the_usage() {
     let lists = [
         &["cycles"][..],
         &["cycles", "x"],
+        &["frames"],
+        &["frames", "1", "2"],
         &["steps", "1", "2", "3"],
         &[],
     ];
     let traces = [&["damaged"][..], &["1", "65536"], &["1", "2", "3"], &[]];
-    for (program, cases) in [(LISTS, lists), (TRACES, traces)] {
+    for (program, cases) in [(LISTS, &lists[..]), (TRACES, &traces)] {
         for arguments in cases {
             let output = run_with_arguments(program, arguments);
             assert_eq!(output.status.code(), Some(2), "{arguments:?}");

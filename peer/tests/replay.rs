@@ -53,6 +53,18 @@ impl Calls {
         self
     }
 
+    fn write_frame(mut self, capacity: u16, words: &[u16]) -> Calls {
+        self.0.extend([9, capacity, words.len() as u16]);
+        self.0.extend(words);
+        self
+    }
+
+    fn read_frame(mut self, capacity: u16, words: &[u16]) -> Calls {
+        self.0.extend([10, capacity, words.len() as u16]);
+        self.0.extend(words);
+        self
+    }
+
     fn lines(&self) -> String {
         lines_of(&bytes(&self.0))
     }
@@ -262,8 +274,98 @@ fn block_lines() {
 }
 
 #[test]
+fn frame_lines() {
+    let list = calls()
+        .write_frame(8, &[0xf0])
+        .write_frame(7, &[0x10])
+        .write_frame(6, &[0x10])
+        .write_frame(0, &[0x10])
+        .write_frame(3, &[])
+        .write_frame(1, &[1; 245])
+        .write_frame(0, &[1; 245]);
+    assert_eq!(
+        list.lines(),
+        "frame 0 6 1002f0100310eeee\n\
+         frame 0 7 100210101003f0\n\
+         frame 16 0 eeeeeeeeeeee\n\
+         frame 16 0\n\
+         frame 15 0 eeeeee\n\
+         frame 15 0 ee\n\
+         frame 15 0\n"
+    );
+}
+
+#[test]
+fn data_lines() {
+    let frame = [0x10, 0x02, 0x0a, 0x10, 0x10, 0x10, 0x03, 0xe6];
+    let list = calls()
+        .read_frame(4, &frame)
+        .read_frame(2, &frame)
+        .read_frame(1, &frame)
+        .read_frame(0, &frame)
+        .read_frame(2, &frame[1..])
+        .read_frame(0, &frame[1..])
+        .read_frame(1, &[]);
+    assert_eq!(
+        list.lines(),
+        "data 0 2 0a10eeee\n\
+         data 0 2 0a10\n\
+         data 16 0 ee\n\
+         data 16 0\n\
+         data 17 0 eeee\n\
+         data 17 0\n\
+         data 17 0 ee\n"
+    );
+}
+
+#[test]
+fn only_the_low_bytes_of_frame_words_count() {
+    let list = calls()
+        .write_frame(6, &[0xab05])
+        .read_frame(1, &[0x0110, 0xff02, 0x1005, 0x1010, 0x0203, 0x80fb]);
+    assert_eq!(list.lines(), "frame 0 6 1002051003fb\ndata 0 1 05\n");
+}
+
+/// They need no module and leave the one that is there.
+#[test]
+fn frames_beside_a_module() {
+    let list = calls()
+        .write_frame(0, &[])
+        .nudge(0)
+        .power(8511)
+        .step(sample(7, 0, 0))
+        .read_frame(0, &[])
+        .step([2000, 0, 0, 0, 0, 0, 0, 0, 0]);
+    assert_eq!(
+        list.lines(),
+        "frame 15 0\nnone\npower 0\nstep 0 7 0 0 0 0 0 0000 0000 0\n\
+         data 17 0\nstep 11 7 0 0 0 0 0 0000 0000 0\n"
+    );
+}
+
+#[test]
+fn longest_frame_calls() {
+    let list = calls()
+        .write_frame(65535, &[1; 65535])
+        .read_frame(65535, &[0x10; 65535])
+        .write_frame(65535, &[0x10; 244]);
+    let text = list.lines();
+    let lines: Vec<&str> = text.lines().collect();
+    let untouched = "ee".repeat(65535);
+    assert_eq!(lines[0], format!("frame 15 0 {untouched}"));
+    assert_eq!(lines[1], format!("data 17 0 {untouched}"));
+    // 244 × 10h is F40h, so that the check byte is C0h.
+    let written = format!("1002{}1003c0", "1010".repeat(244));
+    let rest = "ee".repeat(65535 - 493);
+    assert_eq!(lines[2], format!("frame 0 493 {written}{rest}"));
+}
+
+#[test]
 fn unknown_opcode_is_bad_and_ends() {
-    assert_eq!(lines_of(&bytes(&[7])), "bad\n");
+    for opcode in [7, 8, 11, 12, 65535] {
+        assert_eq!(lines_of(&bytes(&[opcode])), "bad\n");
+        assert_eq!(lines_of(&bytes(&[opcode, 0, 0, 0, 0])), "bad\n");
+    }
     assert_eq!(
         lines_of(&bytes(&[0, 8511, 65535, 0, 8511])),
         "power 0\nbad\n"
@@ -288,6 +390,8 @@ fn p85_cut_calls_are_bad_with_or_without_a_module() {
         calls().nudge(3),
         calls().step([0; 9]),
         calls().block(0, 1, &[1], &[2]),
+        calls().write_frame(8, &[1, 2, 3]),
+        calls().read_frame(8, &[1, 2, 3]),
     ];
     for call in list {
         let whole = bytes(&call.0);

@@ -1,8 +1,9 @@
 //! docs/REPLAY.md over the archive: one module, changed where it sits. The
-//! archive has no block reader; peer's stands in for it.
+//! archive has no block reader and no frames; peer's stand in for them.
 
 use std::io::{self, BufRead, Write};
 
+use peer::replay::FrameCall;
 use peer::words::Words;
 use peer::{read_block, Block, SAMPLE_WORDS};
 
@@ -49,6 +50,8 @@ impl Card<'_> {
             4 => Some(self.nudge(words.next_word()?, output)),
             5 => Some(self.step(read_sample(words)?, output)),
             6 => block(words, output),
+            9 => Some(FrameCall::write(words)?.make(output)),
+            10 => Some(FrameCall::read(words)?.make(output)),
             _ => None,
         }
     }

@@ -7,7 +7,7 @@ use card_loop::layout::{
 };
 use card_loop::replay;
 use card_loop::FileCycle;
-use peer::generate::{cycle_list, step_list, CallList};
+use peer::generate::{cycle_list, frame_list, step_list, CallList};
 
 const GUARD: [u8; 64] = [0xa5; 64];
 
@@ -64,6 +64,12 @@ fn steps_in_place_answer_as_peer_does() {
 #[test]
 fn cycles_on_a_lent_module_answer_as_peer_does() {
     compare((1..=200).map(|seed| (seed, cycle_list(seed))));
+}
+
+/// The frames are peer's; the calls between them are the archive's.
+#[test]
+fn frames_between_calls_answer_as_peer_does() {
+    compare((1..=40).map(|seed| (seed, frame_list(seed))));
 }
 
 /// A module of numbers that no call writes is stepped and programmed, and

@@ -46,6 +46,8 @@ fn seeds(count: &str, first: &str) -> Option<Range<u64>> {
 }
 
 fn usage() -> ExitCode {
-    eprintln!("usage: compare cycles|steps|traces|damaged COUNT FIRST_SEED PROGRAM_A PROGRAM_B");
+    eprintln!(
+        "usage: compare cycles|steps|frames|traces|damaged COUNT FIRST_SEED PROGRAM_A PROGRAM_B"
+    );
     ExitCode::from(USAGE_STATUS)
 }

@@ -44,6 +44,19 @@ impl CallList {
         self.counted(m1);
     }
 
+    /// A frame written from the low bytes of the words into a buffer of
+    /// `capacity` bytes.
+    pub fn write_frame(&mut self, capacity: u16, words: &[u16]) {
+        self.call(&[9, capacity]);
+        self.counted(words);
+    }
+
+    /// A frame read from the low bytes of the words.
+    pub fn read_frame(&mut self, capacity: u16, words: &[u16]) {
+        self.call(&[10, capacity]);
+        self.counted(words);
+    }
+
     fn counted(&mut self, file: &[u16]) {
         self.words.push(file.len() as u16);
         self.words.extend(file);
@@ -56,6 +69,11 @@ impl CallList {
     /// Ends the list with what is no whole call.
     pub fn break_off(&mut self, tail: Vec<u8>) {
         self.tail = tail;
+    }
+
+    #[cfg(test)]
+    pub fn tail(&self) -> &[u8] {
+        &self.tail
     }
 
     /// Lines of the answers: one for each call, and `bad` for a tail.
@@ -87,14 +105,17 @@ mod tests {
         list.nudge(0x1234);
         list.step(&[1, 2, 3, 4, 5, 6, 7, 8, 9]);
         list.block(1, 32, &[5], &[]);
+        list.write_frame(493, &[6, 7]);
+        list.read_frame(0, &[8]);
         let words = [
-            0, 8511, 2, 2, 7, 8, 4, 0x1234, 5, 1, 2, 3, 4, 5, 6, 7, 8, 9, 6, 1, 32, 1, 5, 0,
+            0, 8511, 2, 2, 7, 8, 4, 0x1234, 5, 1, 2, 3, 4, 5, 6, 7, 8, 9, 6, 1, 32, 1, 5, 0, 9,
+            493, 2, 6, 7, 10, 0, 1, 8,
         ];
         assert_eq!(list.words, words);
-        assert_eq!((list.lines(), list.steps()), (5, 1));
+        assert_eq!((list.lines(), list.steps()), (7, 1));
         assert_eq!(list.bytes()[..6], [0, 0, 0x3f, 0x21, 2, 0]);
         list.break_off(vec![9]);
         assert_eq!(list.bytes().len(), 2 * words.len() + 1);
-        assert_eq!(list.lines(), 6);
+        assert_eq!(list.lines(), 8);
     }
 }

@@ -33,7 +33,10 @@ fn draw_tail(numbers: &mut Numbers) -> Vec<u8> {
         2 => call.step(&words),
         3 => call.block(words[0], words[1], &words[2..5], &words[5..]),
         opcode @ 4..=6 => call.file(opcode as u16 - 3, &words),
-        _ => return little_endian(&[numbers.between(7, 65535), words[0]]),
+        _ => {
+            let unknown = numbers.between(11, 65535);
+            return little_endian(&[numbers.pick(&[7, 8, unknown, unknown]), words[0]]);
+        }
     }
     let mut bytes = call.bytes();
     bytes.truncate(1 + numbers.below(bytes.len() as u32 - 1) as usize);

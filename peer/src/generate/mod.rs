@@ -7,6 +7,10 @@ mod call_list;
 mod coverage;
 mod cycle_lists;
 mod file_kind;
+#[cfg(test)]
+mod frame_coverage;
+mod frame_lists;
+mod frame_parts;
 mod ladder;
 mod numbers;
 mod program;
@@ -17,5 +21,6 @@ mod traces;
 
 pub use call_list::CallList;
 pub use cycle_lists::cycle_list;
+pub use frame_lists::frame_list;
 pub use step_lists::{step_list, USUAL_STEPS};
 pub use traces::{damaged_trace, whole_trace, USUAL_SAMPLES};

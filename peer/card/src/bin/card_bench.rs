@@ -4,10 +4,13 @@
 use std::process::ExitCode;
 
 use card_loop::bench;
+use peer::bench::Case;
 use peer::words;
 
 fn main() -> ExitCode {
     words::write_from_arguments("card_bench a N | card_bench b N", |arguments| {
-        peer::bench::line(arguments, bench::run)
+        peer::bench::line(arguments, |name, steps| {
+            Some(bench::run(&Case::of_name(name)?, steps))
+        })
     })
 }

@@ -1,9 +1,9 @@
-// The program's arguments: a case and a number of steps.
+// The program's arguments: a case and a number of steps or frames.
 
-// A number of steps, or what is none.
+// A number, or what is none.
 pub enum Count {
     Unread,
-    Steps(u32),
+    Number(u32),
 }
 
 // The number of which the text has the digits, from a place on.
@@ -24,7 +24,7 @@ fn digits_from(text: &[u8], from: usize) -> Count {
         }
         k = k + 1;
     }
-    Count::Steps(n as u32)
+    Count::Number(n as u32)
 }
 
 // A number in decimal, which may have a plus sign before it.

@@ -1,6 +1,7 @@
-// Steps from memory and a checksum over their answers, to measure their time: docs/BENCH.md.
+// Steps and frames from memory and a checksum over their answers, to measure their time: docs/BENCH.md.
 mod arguments;
 mod cases;
+mod frames;
 mod steps;
 
 use crate::arguments::Count;
@@ -8,6 +9,8 @@ use crate::arguments::case_name;
 use crate::arguments::count_of;
 use crate::cases::Case;
 use crate::cases::module_of;
+use crate::frames::frames_read;
+use crate::frames::frames_written;
 use crate::steps::checksum;
 use text::put;
 use text::put_decimal;
@@ -15,16 +18,26 @@ use text::put_text;
 use text::show;
 
 fn usage() {
-    io::write_all(2, b"usage: bench a N | bench b N\n");
+    io::write_all(2, b"usage: bench a N | bench b N | bench w N | bench r N\n");
+}
+
+// The checksum of a case.
+fn sum_of(name: u8, n: u32) -> u32 {
+    match name {
+        b'a' => checksum(module_of(Case::FULL), n),
+        b'b' => checksum(module_of(Case::SMALL), n),
+        b'w' => frames_written(n),
+        _ => frames_read(n),
+    }
 }
 
 // The number's text is printed as it was given.
-fn run(name: u8, c: Case, text: &[u8]) {
+fn run(name: u8, text: &[u8]) {
     let count = count_of(text);
     match count {
         Count::Unread => usage(),
-        Count::Steps(n) => {
-            let sum = checksum(module_of(c), n);
+        Count::Number(n) => {
+            let sum = sum_of(name, n);
             let l = put(put(text::empty(), name), b' ');
             let l = put(put_text(l, text), b' ');
             show(put_decimal(l, sum));
@@ -39,9 +52,9 @@ fn main() {
         usage();
         return;
     }
-    match case_name() {
-        b'a' => run(b'a', Case::FULL, &text[..n]),
-        b'b' => run(b'b', Case::SMALL, &text[..n]),
+    let name = case_name();
+    match name {
+        b'a' | b'b' | b'w' | b'r' => run(name, &text[..n]),
         _ => usage(),
     }
 }

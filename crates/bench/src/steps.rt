@@ -25,7 +25,7 @@ fn sample_at(i: u32) -> Sample {
 }
 
 // The sum with one number more.
-fn plus(sum: u32, number: u64) -> u32 {
+pub fn plus(sum: u32, number: u64) -> u32 {
     ((31 * sum as u64 + number % 4294967296) % 4294967296) as u32
 }
 

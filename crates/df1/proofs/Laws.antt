@@ -6,7 +6,8 @@ use mathlib.Core.List.{List, [], _∷_, _++_}
 use mathlib.Core.Path.{_≡_, refl, sym, ap, _∙_}
 use native.Mathlib.Omega.{arith}
 use native.Mathlib.Numerals.{add-one}
-use lib.ListN.{length, getD, drop, set, length-drop, drop-of-length-le}
+use native.Mathlib.Nat.{add-zero}
+use lib.ListN.{length, getD, drop, set, drop-of-length-le}
 use lib.Seq.{sets, sets-eq, drop-cons, drop-drop, drop-length}
 use lib.Dec.{leb, eqb}
 use borrow.Author.Tests.{eqb-true, eq-eqb, ne-eqb}
@@ -75,16 +76,6 @@ undoubled-doubled (b ∷ bytes) = go (eqb b dle) refl (undoubled-doubled bytes)
 
 -- ---- Bodies in which each DLE is one of two
 
-pub paired-turn : (b : ℕ) (body : List ℕ) → paired (b ∷ body) ≡ true → (paired (drop (more b) body) ≡ true) × (more b ≤ length body)
-unfolding paired
-paired-turn b body h = go (eqb b dle) refl body h
-  where
-    go : (is : Bool) → eqb b dle ≡ is → (body : List ℕ) → paired (b ∷ body) ≡ true → (paired (drop (cond is 1 0) body) ≡ true) × (cond is 1 0 ≤ length body)
-    go true e [] h = absurd (not-both (rw e at h))
-    go true e (c ∷ body) h = (and-right (eqb c dle) (paired body) (rw e at h), omega arith)
-    go false e [] h = (refl, omega arith)
-    go false e (c ∷ body) h = (rw e at h, omega arith)
-
 -- the body of doubled data, and doubled data of a body
 pub paired-doubled : (bytes : List ℕ) → paired (doubled bytes) ≡ true
 unfolding doubled sent paired
@@ -133,8 +124,8 @@ paired-skip b [] e = rw e
 paired-skip b (c ∷ body) e = rw e
 
 module _ (l : List ℕ) (k : ℕ) (within : k < length l) where
-  pub undoubled-some : 0 < length (undoubled (drop k l))
-  undoubled-some = rw (next l k within, undoubled-turn) (omega arith)
+  pub undoubled-next : undoubled (drop k l) ≡ getD l k 0 ∷ undoubled (drop (k + 1 + more (getD l k 0)) l)
+  undoubled-next = ap undoubled (next l k within) ∙ undoubled-turn (getD l k 0) (drop (k + 1) l) ∙ rw (drop-drop (more (getD l k 0)) (k + 1) l)
 
   module _ (other : getD l k 0 ≡ dle → ⊥) where
     pub count-other : dleCount (drop k l) ≡ dleCount (drop (k + 1) l)
@@ -142,7 +133,7 @@ module _ (l : List ℕ) (k : ℕ) (within : k < length l) where
     count-other = rw (next l k within, ne-eqb (getD l k 0) dle other) (omega arith)
 
     pub undoubled-other : undoubled (drop k l) ≡ getD l k 0 ∷ undoubled (drop (k + 1) l)
-    undoubled-other = ap undoubled (next l k within) ∙ undoubled-turn (getD l k 0) (drop (k + 1) l) ∙ rw (ne-eqb (getD l k 0) dle other)
+    undoubled-other = rw (ne-eqb (getD l k 0) dle other, add-zero) at undoubled-next
 
     pub paired-other : paired (drop k l) ≡ paired (drop (k + 1) l)
     paired-other = ap paired (next l k within) ∙ paired-skip (getD l k 0) (drop (k + 1) l) (ne-eqb (getD l k 0) dle other)
@@ -153,16 +144,11 @@ module _ (l : List ℕ) (k : ℕ) (within : k < length l) where
     count-dle = rw (next l k within, eq-eqb (getD l k 0) dle is)
 
     pub undoubled-dle : undoubled (drop k l) ≡ getD l k 0 ∷ undoubled (drop (k + 1 + 1) l)
-    undoubled-dle = ap undoubled (next l k within) ∙ undoubled-turn (getD l k 0) (drop (k + 1) l) ∙ rw (eq-eqb (getD l k 0) dle is, drop-drop 1 (k + 1) l)
+    undoubled-dle = rw (eq-eqb (getD l k 0) dle is) at undoubled-next
 
     pub paired-two : k + 1 < length l → getD l (k + 1) 0 ≡ dle → paired (drop k l) ≡ paired (drop (k + 1 + 1) l)
     unfolding paired
     paired-two more second = rw (next l k within, next l (k + 1) more, eq-eqb (getD l k 0) dle is, eq-eqb (getD l (k + 1) 0) dle second)
-
-    pub paired-then : paired (drop k l) ≡ true → (k + 1 < length l) × (paired (drop (k + 1 + 1) l) ≡ true)
-    paired-then h =
-        let t = rw (eq-eqb (getD l k 0) dle is) at (paired-turn (getD l k 0) (drop (k + 1) l) (rw (next l k within) at h)) in
-        (omega (arith, t .1, length-drop (k + 1) l), rw (drop-drop 1 (k + 1) l) at (t .0))
 
     pub paired-one : k + 1 < length l → (getD l (k + 1) 0 ≡ dle → ⊥) → paired (drop k l) ≡ false
     unfolding paired

@@ -125,6 +125,9 @@ pub frame-data : (bytes : List ℕ) → dataOf (frameOf bytes) ≡ bytes
 unfolding dataOf
 frame-data bytes = ap undoubled (frame-inside bytes) ∙ undoubled-doubled bytes
 
+pub framed-long : (input : List ℕ) → framed input ≡ true → 5 ≤ length input
+framed-long input f = omega (arith, simp length-append at (ap length (framed-parts input f)))
+
 -- ---- The tests
 
 pub both-ways : (a b : Bool) → (a ≡ true → b ≡ true) → (b ≡ true → a ≡ true) → a ≡ b
@@ -243,11 +246,9 @@ module _ (input : List ℕ) where
       go true e = absurd (omega (arith, frame-some e, rw e at h))
       go false e = e
 
-  pub frame-paired : isFrame input ≡ true → (framed input ≡ true) × (paired (inside input) ≡ true)
-  frame-paired h =
-      let t = and-left (framed input && paired (inside input)) (eqb (lastOf input) (checkByte (dataOf input)))
-      (and-left (framed input && paired (inside input) && eqb (lastOf input) (checkByte (dataOf input))) (allowed (length (dataOf input))) (sym tests ∙ h)) in
-      (and-left (framed input) (paired (inside input)) t, and-right (framed input) (paired (inside input)) t)
-
-pub framed-long : (input : List ℕ) → framed input ≡ true → 5 ≤ length input
-framed-long input f = omega (arith, simp length-append at (ap length (framed-parts input f)))
+  pub frame-long : isFrame input ≡ true → 5 ≤ length input
+  frame-long h =
+      framed-long input
+      (and-left (framed input) (paired (inside input))
+      (and-left (framed input && paired (inside input)) (eqb (lastOf input) (checkByte (dataOf input)))
+      (and-left (framed input && paired (inside input) && eqb (lastOf input) (checkByte (dataOf input))) (allowed (length (dataOf input))) (sym tests ∙ h))))

@@ -12,10 +12,9 @@ use crate::refused;
 ghost use mathlib.Core.Path.{_≡_};
 ghost use Prim.Native.Nat.{_≤_};
 ghost use lib.ListN.{length};
-ghost use mathlib.Core.Bool.{true};
 ghost use lib.Seq.{sets};
 ghost use Rattle.df1.specs.Frame as frame;
-ghost use Rattle.df1.specs.Parts.{framed, paired, scanOf, foundLength};
+ghost use Rattle.df1.specs.Parts.{framed, scanOf, foundLength};
 
 // The input begins with DLE STX, and DLE ETX stand before its last byte.
 fn is_framed(input: &[u8]) -> bool
@@ -87,20 +86,22 @@ fn data_length(input: &[u8]) -> usize
 
 // The data of a body at the buffer's start; the second of two DLEs is passed over.
 fn put_data(out: &mut [u8], body: &[u8])
-    requires { ⌜ (paired (now body) ≡ true) × (length (frame.undoubled (now body)) ≤ length (now out)) ⌝ }
+    requires { ⌜ length (frame.undoubled (now body)) ≤ length (now out) ⌝ }
     ensures { λ r. ⌜ now (out .exit) ≡ sets (now (out .entry)) 0 (frame.undoubled (now (body .entry))) ⌝ }
 {
     let mut place: usize = 0;
+    let mut second = false;
     let mut at: usize = 0;
     while at < body.len() {
         let b = body[at];
-        out[place] = b;
-        place = place + 1;
         at = at + 1;
-        if b != DLE {
+        if second {
+            second = false;
             continue;
         }
-        at = at + 1;
+        out[place] = b;
+        place = place + 1;
+        second = b == DLE;
     }
 }
 

@@ -2,7 +2,7 @@
 use Rattle.df1.specs.Frame.{inside, dataOf, undoubled, isFrame, answerOf, bufferAfter, fits, readAnswer, readBuffer}
 use Rattle.df1.specs.Parts.{paired, framed, foundLength}
 use Rattle.df1.proofs.Laws.{sets-start}
-use Rattle.df1.proofs.Parts.{inside-part, framed-long, found-some, no-frame, frame-some, frame-paired}
+use Rattle.df1.proofs.Parts.{inside-part, frame-long, found-some, no-frame, frame-some}
 use Rattle.df1.proofs.Answers.{fits-not, fits-whole, read-no-frame, read-frame}
 use native.Mathlib.Omega.{arith}
 use borrow.Author.Tests.{not-true, not-false}
@@ -27,7 +27,7 @@ unfolding foundLength
 found c = c .before .data-length .ensures ∙ rw (is-frame c)
 
 long : (c : tie.Else1) → 5 ≤ length (c .before .before .before .before .args .input .now)
-long c = framed-long (c .before .before .before .before .args .input .now) (frame-paired (c .before .before .before .before .args .input .now) (is-frame c) .0)
+long c = frame-long (c .before .before .before .before .args .input .now) (is-frame c)
 
 fitted : (c : tie.After-fitting) → c .fitting .result ≡ answerOf (fits (length (dataOf (c .before .before .before .before .before .args .input .now))) (length (c .before .before .before .before .before .args .out .now))) (length (dataOf (c .before .before .before .before .before .args .input .now)))
 fitted c = rw (found (c .before)) at (c .fitting .ensures)
@@ -76,9 +76,7 @@ part-put-data-end c = search needs
 
 put-data-requires : tie.Need-put-data-requires
 unfolding dataOf
-put-data-requires c κs =
-    let input = c .before .before .before .before .before .before .before .before .before .args .input .now in
-    (ap paired (inside-part input) ∙ frame-paired input (is-frame (c .before .before .before .before .before)) .1, rw (← inside-part input) at (whole (c .before .before) .1))
+put-data-requires c κs = rw (← inside-part (c .before .before .before .before .before .before .before .before .before .args .input .now)) at (whole (c .before .before) .1)
 
 same-length : tie.Need-same-length
 same-length c = search needs

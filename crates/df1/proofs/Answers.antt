@@ -5,12 +5,13 @@ use mathlib.Core.Bool.{Bool, true, false, cond}
 use mathlib.Core.List.{List, [], _∷_, _++_}
 use mathlib.Core.Path.{_≡_, refl, sym, ap, _∙_}
 use native.Mathlib.Omega.{arith}
-use lib.ListN.{length, drop}
+use lib.ListN.{length, drop, length-append}
 use lib.Dec.{leb}
 use borrow.Author.Tests.{leb-true, leb-false}
 use Rattle.df1.specs.declared.Refusal.the-variants.{DataLength, ShortBuffer, NotAFrame}
+use Rattle.df1.specs.declared.Outcome.{Outcome}
 use Rattle.df1.specs.declared.Outcome.the-variants.{Accepted, Refused}
-use Rattle.df1.specs.Frame.{allowed, frameOf, dataOf, isFrame, fits, writeOutcome, readOutcome, answerOf, bufferAfter}
+use Rattle.df1.specs.Frame.{allowed, frameOf, dataOf, isFrame, fits, writeOutcome, readOutcome, answerOf, bufferAfter, writeAnswer, writeBuffer, readAnswer, readBuffer}
 use Rattle.df1.specs.Parts.{dleCount}
 use Rattle.df1.proofs.Laws.{doubled-length}
 use Rattle.df1.proofs.Parts.{frame-length}
@@ -52,3 +53,17 @@ read-no-frame input room h = rw h
 pub read-frame : (input : List ℕ) (room : ℕ) → isFrame input ≡ true → readOutcome input room ≡ fits (length (dataOf input)) room
 unfolding readOutcome
 read-frame input room h = rw h
+
+-- the length that a call gives lies within its buffer
+answer-within : (o : Outcome) (bytes buffer : List ℕ) → answerOf o (length bytes) .length ≤ length (bufferAfter o bytes buffer)
+unfolding answerOf bufferAfter
+answer-within Accepted bytes buffer = simp length-append (omega arith)
+answer-within (Refused why) bytes buffer = omega arith
+
+pub write-within : (bytes buffer : List ℕ) → writeAnswer bytes (length buffer) .length ≤ length (writeBuffer bytes buffer)
+unfolding writeAnswer writeBuffer
+write-within bytes buffer = answer-within (writeOutcome bytes (length buffer)) (frameOf bytes) buffer
+
+pub read-within : (input buffer : List ℕ) → readAnswer input (length buffer) .length ≤ length (readBuffer input buffer)
+unfolding readAnswer readBuffer
+read-within input buffer = answer-within (readOutcome input (length buffer)) (dataOf input) buffer

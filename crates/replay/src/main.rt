@@ -1,5 +1,6 @@
 // Reads a list of calls from standard input and prints the whole answer of each: docs/REPLAY.md.
 mod answer;
+mod frames;
 mod input;
 
 use crate::answer::cycle_line;
@@ -7,6 +8,8 @@ use crate::answer::file_line;
 use crate::answer::put_outcome;
 use crate::answer::put_words;
 use crate::answer::step_line;
+use crate::frames::answer;
+use crate::frames::low_bytes;
 use crate::input::Input;
 use crate::input::kept;
 use crate::input::read_file;
@@ -189,6 +192,23 @@ fn block_call(r: Replay) -> Replay {
     block_of(r, which == 0, n)
 }
 
+// A frame written or read: the buffer's size, then the bytes. Data or a frame that the room has not whole is refused by the part that it has.
+fn frame_call(r: Replay, writes: bool) -> Replay {
+    let size = read_word();
+    let Input::Word(capacity) = size else {
+        return bad(r);
+    };
+    let mut words = [0u16; 651];
+    let length = read_file(&mut words);
+    let Input::Word(n) = length else {
+        return bad(r);
+    };
+    let end = kept(n, words);
+    let bytes = low_bytes(&words);
+    answer(writes, &bytes[..end], capacity);
+    r
+}
+
 fn call(r: Replay, opcode: u16) -> Replay {
     match opcode {
         0 => power_call(r),
@@ -198,6 +218,8 @@ fn call(r: Replay, opcode: u16) -> Replay {
         4 => nudge_call(r),
         5 => step_call(r),
         6 => block_call(r),
+        9 => frame_call(r, true),
+        10 => frame_call(r, false),
         _ => bad(r),
     }
 }

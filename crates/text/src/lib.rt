@@ -3,7 +3,7 @@
 ghost use mathlib.Core.Path.{_≡_};
 ghost use Prim.Native.Nat.{_<_};
 
-// The bytes of a line so far. A byte that no longer fits is dropped; no line of the programs is that long.
+// The bytes of a line so far. A byte that no longer fits is dropped: a line that could be so long is `flushed` on the way.
 pub struct Line {
     pub bytes: [u8; 192],
     pub len: usize,
@@ -83,6 +83,12 @@ pub fn put_hex(l: Line, n: u16) -> Line {
     put_digit(c, n)
 }
 
+// A byte as two hexadecimal digits.
+pub fn put_byte(l: Line, b: u8) -> Line {
+    let n = b as u16;
+    put_digit(put_digit(l, n / 16), n)
+}
+
 // 1 for yes, 0 for no.
 pub fn put_flag(l: Line, b: bool) -> Line {
     if b {
@@ -98,6 +104,15 @@ fn write(l: Line) {
     if n <= 192 {
         io::write_all(1, &b[..n]);
     }
+}
+
+// The line, with room for ten bytes more: what a nearly full one has is written.
+pub fn flushed(l: Line) -> Line {
+    if l.len <= 182 {
+        return l;
+    }
+    write(l);
+    empty()
 }
 
 // Writes the line, ended by a line feed.

@@ -1,7 +1,7 @@
 // The calls of a list: little-endian words from standard input.
 use rules::Sample;
 ghost use mathlib.Core.Path.{_≡_};
-ghost use Prim.Native.Nat.{_<_};
+ghost use Prim.Native.Nat.{_<_, _≤_};
 ghost use Rattle.io.specs.Counts.{Counts};
 
 // What the input had: nothing, the part of a word or of a file, or the whole of it.
@@ -88,6 +88,7 @@ pub fn read_file(file: &mut [u16; 651]) -> Input {
 // How many words of a file of n the room has. It takes the room so that the contract can speak of it.
 pub fn kept(n: u16, room: [u16; 651]) -> usize
     ensures { λ r. ⌜ Counts r room ⌝ }
+    ensures { λ r. ⌜ r ≤ 651 ⌝ }
 {
     if 651 < n {
         return 651;

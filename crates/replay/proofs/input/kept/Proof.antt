@@ -16,12 +16,12 @@ counts n xs h = (h, sym (length-take-le n xs h))
 returns : tie.Need-returns
 returns c =
     let e : length (c .before .args .room) ≡ 651 = search needs in
-    counts 651 (c .before .args .room) (omega arith)
+    (counts 651 (c .before .args .room) (omega arith), omega arith)
 
 returns-2 : tie.Need-returns-2
 returns-2 c =
     let e : length (c .before .args .room) ≡ 651 = search needs in
-    counts (c .before .args .n) (c .before .args .room) (omega arith)
+    (counts (c .before .args .n) (c .before .args .room) (omega arith), omega arith)
 
 pub kept-spec : {M : Type 1} → statement M
 kept-spec = tie.close (tie.spec returns returns-2)

@@ -1,13 +1,13 @@
 -- Laws of what the calls answer: refused or accepted by their tests.
 -- Assumes nothing.
-use Prim.Native.Nat.{ℕ, suc, _+_, _<_, _≤_}
+use Prim.Native.Nat.{ℕ, _+_, _<_, _≤_}
 use mathlib.Core.Bool.{Bool, true, false, cond}
-use mathlib.Core.List.{List, [], _∷_, _++_}
-use mathlib.Core.Path.{_≡_, refl, sym, ap, _∙_}
+use mathlib.Core.List.{List}
+use mathlib.Core.Path.{_≡_, refl}
 use native.Mathlib.Omega.{arith}
-use lib.ListN.{length, drop, length-append}
+use lib.ListN.{length, length-append}
 use lib.Dec.{leb}
-use borrow.Author.Tests.{leb-true, leb-false}
+use borrow.Author.Tests.{leb-true}
 use Rattle.df1.specs.declared.Refusal.the-variants.{DataLength, ShortBuffer, NotAFrame}
 use Rattle.df1.specs.declared.Outcome.{Outcome}
 use Rattle.df1.specs.declared.Outcome.the-variants.{Accepted, Refused}

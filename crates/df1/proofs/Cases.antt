@@ -5,7 +5,6 @@ use mathlib.Core.List.{List, map}
 use mathlib.Core.Path.{_≡_, refl}
 use lib.ListN.{length}
 use Rattle.df1.specs.declared.Refusal.the-variants.{NotAFrame}
-use Rattle.df1.specs.declared.Outcome.{Outcome}
 use Rattle.df1.specs.declared.Outcome.the-variants.{Accepted, Refused}
 use Rattle.df1.specs.Frame.{sent, doubled, sumOf, complement, checkByte, frameOf, inside, undoubled, dataOf, same, isFrame, fits, readOutcome}
 use Rattle.df1.specs.Cases.{frames, noFrames}

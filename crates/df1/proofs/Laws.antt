@@ -1,7 +1,7 @@
 -- Laws of frames: data doubled and read again, sums, runs of stores, and the tests that tell a frame.
 -- Assumes nothing.
-use Prim.Native.Nat.{ℕ, zero, suc, _+_, _-_, _%_, _<_, _≤_}
-use mathlib.Core.Bool.{Bool, true, false, cond, not, _&&_}
+use Prim.Native.Nat.{ℕ, suc, _+_, _-_, _%_, _<_, _≤_}
+use mathlib.Core.Bool.{Bool, true, false, cond, not, _&&_, false≢true}
 use mathlib.Core.List.{List, [], _∷_, _++_}
 use mathlib.Core.Path.{_≡_, refl, sym, ap, _∙_}
 use native.Mathlib.Omega.{arith}
@@ -9,17 +9,12 @@ use native.Mathlib.Numerals.{add-one}
 use native.Mathlib.Nat.{add-zero}
 use lib.ListN.{length, getD, drop, set, drop-of-length-le}
 use lib.Seq.{sets, sets-eq, drop-cons, drop-drop, drop-length}
-use lib.Dec.{leb, eqb}
+use lib.Dec.{eqb}
 use borrow.Author.Tests.{eqb-true, eq-eqb, ne-eqb}
 use Rattle.df1.specs.Frame.{dle, stx, etx, sent, doubled, sumOf, checkByte, frameOf, undoubled, same}
 use Rattle.df1.specs.Parts.{dleCount, paired}
 
 -- ---- Tests
-
-pub not-both : false ≡ true → ⊥
-not-both h =
-    let z : _≡_ {A = ℕ} 0 1 = cc in
-    omega arith
 
 pub and-left : (a b : Bool) → a && b ≡ true → a ≡ true
 and-left true b h = refl
@@ -27,7 +22,7 @@ and-left false b h = h
 
 pub and-right : (a b : Bool) → a && b ≡ true → b ≡ true
 and-right true b h = h
-and-right false b h = absurd (not-both h)
+and-right false b h = absurd (false≢true h)
 
 -- ---- Doubled data
 
@@ -93,7 +88,7 @@ doubled-undoubled [] h = refl
 doubled-undoubled (b ∷ []) h = go (eqb b dle) refl h
   where
     go : (is : Bool) → eqb b dle ≡ is → not is ≡ true → cond is (b ∷ b ∷ []) (b ∷ []) ++ [] ≡ b ∷ []
-    go true e h = absurd (not-both h)
+    go true e h = absurd (false≢true h)
     go false e h = refl
 doubled-undoubled (b ∷ c ∷ body) h = go (eqb b dle) refl h (doubled-undoubled body) (doubled-undoubled (c ∷ body))
   where
@@ -207,6 +202,6 @@ same-refl (x ∷ a) = rw (eq-eqb x x refl) (same-refl a)
 pub same-true : (a b : List ℕ) → same a b ≡ true → a ≡ b
 unfolding same
 same-true [] [] h = refl
-same-true [] (y ∷ b) h = absurd (not-both h)
-same-true (x ∷ a) [] h = absurd (not-both h)
+same-true [] (y ∷ b) h = absurd (false≢true h)
+same-true (x ∷ a) [] h = absurd (false≢true h)
 same-true (x ∷ a) (y ∷ b) h = rw (eqb-true x y (and-left (eqb x y) (same a b) h), same-true a b (and-right (eqb x y) (same a b) h))

@@ -1,7 +1,7 @@
 -- The parts of a frame, and the tests by which the reader tells one: they are the definition's.
 -- Assumes nothing.
-use Prim.Native.Nat.{ℕ, zero, suc, _+_, _-_, _<_, _≤_}
-use mathlib.Core.Bool.{Bool, true, false, cond, _&&_}
+use Prim.Native.Nat.{ℕ, suc, _+_, _-_, _<_, _≤_}
+use mathlib.Core.Bool.{Bool, true, false, _&&_, and-false, false≢true}
 use mathlib.Core.List.{List, [], _∷_, _++_}
 use mathlib.Core.Path.{_≡_, refl, sym, ap, _∙_}
 use native.Mathlib.Omega.{arith}
@@ -12,7 +12,7 @@ use borrow.Author.Tests.{ltb-true, leb-true, le-leb, eqb-true, eq-eqb, ne-eqb}
 use Rattle.df1.specs.Frame.{dle, stx, etx, allowed, doubled, sumOf, complement, checkByte, frameOf, inside, undoubled, dataOf, same, isFrame}
 use Rattle.df1.specs.declared.Scan.{Scan}
 use Rattle.df1.specs.Parts.{paired, framed, scanOf, foundLength}
-use Rattle.df1.proofs.Laws.{not-both, and-left, and-right, paired-doubled, doubled-undoubled, undoubled-doubled, same-refl, same-true}
+use Rattle.df1.proofs.Laws.{and-left, and-right, paired-doubled, doubled-undoubled, undoubled-doubled, same-refl, same-true}
 
 -- the last byte of an input
 abbrev pub lastOf : List ℕ → ℕ
@@ -165,10 +165,6 @@ same-frame input =
 
 -- ---- What the reader finds
 
-and-false : (a : Bool) → a && false ≡ false
-and-false true = refl
-and-false false = refl
-
 paired-scan : (body : List ℕ) → paired body ≡ true → scanOf body ≡ record { count = length (undoubled body); sum = sumOf (undoubled body) }
 unfolding scanOf
 paired-scan body e = rw e
@@ -223,7 +219,7 @@ module _ (input : List ℕ) where
       go true e =
           let s = paired-scan (inside input) e in
           rw (tests, f, e, eq-eqb (lastOf input) (complement (sumOf (undoubled (inside input)))) (l ∙ rw s), rw s at h, s)
-      go false e = absurd (not-both (rw (unpaired-scan (inside input) e) at h))
+      go false e = absurd (false≢true (rw (unpaired-scan (inside input) e) at h))
 
   pub frame-allowed : isFrame input ≡ true → allowed (length (dataOf input)) ≡ true
   frame-allowed h = and-right (framed input && paired (inside input) && eqb (lastOf input) (checkByte (dataOf input))) (allowed (length (dataOf input))) (sym tests ∙ h)

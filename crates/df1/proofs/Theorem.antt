@@ -1,23 +1,22 @@
 -- What 02 says of frames, of the definitions that the contracts cite: data read back, an accepted frame is the writer's, a frame has 6 to 493 bytes, and each refusal comes exactly where it is listed.
 -- Assumes nothing.
-use Prim.Native.Nat.{ℕ, suc, _+_, _<_, _≤_}
-use mathlib.Core.Bool.{Bool, true, false, cond, _&&_}
+use Prim.Native.Nat.{ℕ, _+_, _<_, _≤_}
+use mathlib.Core.Bool.{Bool, true, false, cond, false≢true}
 use mathlib.Core.List.{List, [], _∷_, _++_}
 use mathlib.Core.Path.{_≡_, refl, sym, ap, _∙_}
 use native.Mathlib.Omega.{arith}
-use borrow.Author.Tests.{ltb-true, leb-true, leb-false, lt-ltb, le-ltb, le-leb, lt-leb}
-use lib.ListN.{length, take, drop, replicate, length-take}
-use lib.Seq.{take-append-seam, length-take-le}
+use borrow.Author.Tests.{ltb-true, leb-true, leb-false, lt-ltb, le-leb, lt-leb}
+use lib.ListN.{length, take, drop, replicate}
+use lib.Seq.{take-append-seam}
 use lib.Dec.{ltb, leb}
 use Rattle.df1.specs.declared.Refusal.{Refusal}
 use Rattle.df1.specs.declared.Refusal.the-variants.{DataLength, ShortBuffer, NotAFrame}
 use Rattle.df1.specs.declared.Outcome.{Outcome}
 use Rattle.df1.specs.declared.Outcome.the-variants.{Accepted, Refused}
 use Rattle.df1.specs.Frame.{dle, allowed, sent, doubled, frameOf, dataOf, same, isFrame, fits, writeOutcome, readOutcome, answerOf, bufferAfter, writeAnswer, writeBuffer, readAnswer, readBuffer}
-use Rattle.df1.specs.Parts.{dleCount}
-use Rattle.df1.proofs.Laws.{not-both, and-left, and-right, dle-count-le, same-true, same-refl}
+use Rattle.df1.proofs.Laws.{and-left, and-right, dle-count-le, same-true, same-refl}
 use Rattle.df1.proofs.Parts.{frame-data}
-use Rattle.df1.proofs.Answers.{frame-size, write-not-allowed, write-allowed, read-no-frame, read-frame}
+use Rattle.df1.proofs.Answers.{frame-size}
 
 -- ---- What the statements speak of
 
@@ -135,7 +134,7 @@ pub write-refused-15 : (bytes : List ℕ) (room : ℕ) → Exactly (writeOutcome
 unfolding Exactly writeOutcome fits decided
 write-refused-15 bytes room =
     let e = turned-away DataLength length-apart (allowed (length bytes)) (leb (length (frameOf bytes)) room) in
-    (λ h a. not-both (sym (e .0 h) ∙ allowed-true bytes a), λ h. e .1 (is-false (allowed (length bytes)) (λ t. h (true-allowed bytes t))))
+    (λ h a. false≢true (sym (e .0 h) ∙ allowed-true bytes a), λ h. e .1 (is-false (allowed (length bytes)) (λ t. h (true-allowed bytes t))))
 
 -- "16, after 15, for a buffer shorter than the frame"
 pub write-refused-16 : (bytes : List ℕ) (room : ℕ) → Exactly (writeOutcome bytes room ≡ Refused ShortBuffer) (Allowed bytes × (room < length (frameOf bytes)))
@@ -159,7 +158,7 @@ pub read-refused-17 : (input : List ℕ) (room : ℕ) → Exactly (readOutcome i
 unfolding Exactly readOutcome fits decided
 read-refused-17 input room =
     let e = turned-away NotAFrame frame-apart (isFrame input) (leb (length (dataOf input)) room) in
-    (λ h bytes f. not-both (sym (e .0 h) ∙ one-reading bytes input f .0), λ h. e .1 (is-false (isFrame input) (λ t. h (dataOf input) (accepted-frame input t))))
+    (λ h bytes f. false≢true (sym (e .0 h) ∙ one-reading bytes input f .0), λ h. e .1 (is-false (isFrame input) (λ t. h (dataOf input) (accepted-frame input t))))
 
 -- "and after it 16 when the lent buffer is shorter than the data"
 pub read-refused-16 : (input : List ℕ) (room : ℕ) → Exactly (readOutcome input room ≡ Refused ShortBuffer) ((bytes : List ℕ) × FrameOf bytes input × (room < length bytes))

@@ -1,7 +1,6 @@
 -- `df1::is_allowed` meets its contract. Assumes nothing.
 use native.Mathlib.Omega.{arith}
 use borrow.Author.Tests.{lt-ltb, le-ltb}
-use borrow.Author.Needs.{needs}
 use Rattle.df1.proofs.is_allowed.Statement.{statement}
 use Rattle.df1.proofs.is_allowed.Tie as tie
 

@@ -1,7 +1,6 @@
 -- `df1::refused` meets its contract. Assumes nothing.
 use mathlib.Core.Path.{refl}
 use Rattle.df1.specs.Frame.{answerOf}
-use borrow.Author.Needs.{needs}
 use Rattle.df1.proofs.refused.Statement.{statement}
 use Rattle.df1.proofs.refused.Tie as tie
 

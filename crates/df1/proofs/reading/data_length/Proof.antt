@@ -4,8 +4,9 @@ use Rattle.df1.specs.Parts.{framed, scanOf}
 use Rattle.df1.proofs.Parts.{lastOf, inside-part, last-place, framed-long, found-unframed, found-not-allowed, found-other-check, found-frame}
 use native.Mathlib.Omega.{arith}
 use borrow.Author.Tests.{not-true, not-false}
-use Prim.Native.Nat.{ℕ, _≤_}
-use lib.ListN.{length}
+use Prim.Native.Nat.{ℕ, _+_, _-_, _≤_}
+use lib.ListN.{length, getD}
+use mathlib.Core.List.{List}
 use mathlib.Core.Path.{_≡_, sym, ap, _∙_}
 use mathlib.Core.Bool.{true}
 use Rattle.df1.specs.declared.Scan.{Scan}
@@ -13,18 +14,34 @@ use borrow.Author.Needs.{needs}
 use Rattle.df1.proofs.reading.data_length.Statement.{statement}
 use Rattle.df1.proofs.reading.data_length.Tie as tie
 
+-- the input of a call that found DLE STX and DLE ETX
+abbrev inputOf : tie.Else1 → List ℕ
+inputOf c = c .before .before .before .args .input .now
+
 -- what the tests have shown by then
-is-framed-then : (c : tie.Else1) → framed (c .before .before .before .args .input .now) ≡ true
+is-framed-then : (c : tie.Else1) → framed (inputOf c) ≡ true
 is-framed-then c = sym (c .before .is-framed .ensures) ∙ not-false (c .before .is-framed .result) (c .if1 .left)
 
-long : (c : tie.Else1) → 5 ≤ length (c .before .before .before .args .input .now)
-long c = framed-long (c .before .before .before .args .input .now) (is-framed-then c)
+long : (c : tie.Else1) → 5 ≤ length (inputOf c)
+long c = framed-long (inputOf c) (is-framed-then c)
 
-scanned : (c : tie.After-scan) → c .scan .result ≡ scanOf (inside (c .before .before .before .before .before .args .input .now))
-scanned c = c .scan .ensures ∙ ap scanOf (inside-part (c .before .before .before .before .before .args .input .now))
+scanned : (c : tie.After-scan) → c .scan .result ≡ scanOf (inside (inputOf (c .before .before)))
+scanned c = c .scan .ensures ∙ ap scanOf (inside-part (inputOf (c .before .before)))
 
-checked : (c : tie.After-complement) → c .complement .result ≡ complement (scanOf (inside (c .before .before .before .before .before .before .before .before .before .args .input .now)) .sum)
-checked c = c .complement .ensures ∙ ap (λ (s : Scan). complement (s .sum)) (scanned (c .before .before .before .before))
+counted : (c : tie.After-is-allowed) → c .is-allowed .result ≡ allowed (scanOf (inside (inputOf (c .before .before .before))) .count)
+counted c = c .is-allowed .ensures ∙ ap (λ (s : Scan). allowed (s .count)) (scanned (c .before))
+
+abbrev allowedThen : tie.After-complement → tie.After-is-allowed
+allowedThen c = c .before .before .before
+
+abbrev framedThen : tie.After-complement → tie.Else1
+framedThen c = allowedThen c .before .before .before
+
+checked : (c : tie.After-complement) → c .complement .result ≡ complement (scanOf (inside (inputOf (framedThen c))) .sum)
+checked c = c .complement .ensures ∙ ap (λ (s : Scan). complement (s .sum)) (scanned (allowedThen c .before))
+
+last : (c : tie.After-complement) → getD (inputOf (framedThen c)) (length (inputOf (framedThen c)) - 3 + 2) 0 ≡ lastOf (inputOf (framedThen c))
+last c = last-place (inputOf (framedThen c)) (omega (arith, long (framedThen c)))
 
 is-framed-requires : tie.Need-is-framed-requires
 is-framed-requires c κs = search needs
@@ -51,9 +68,7 @@ is-allowed-requires : tie.Need-is-allowed-requires
 is-allowed-requires c κs = search needs
 
 returns-2 : tie.Need-returns-2
-returns-2 c =
-    sym (found-not-allowed (c .before .before .before .before .before .before .before .args .input .now)
-    (ap (λ (s : Scan). allowed (s .count)) (sym (scanned (c .before .before))) ∙ sym (c .before .is-allowed .ensures) ∙ not-true (c .before .is-allowed .result) (c .if2 .taken)))
+returns-2 c = sym (found-not-allowed (inputOf (c .before .before .before .before)) (sym (counted (c .before)) ∙ not-true (c .before .is-allowed .result) (c .if2 .taken)))
 
 add-if3 : tie.Need-add-if3
 add-if3 c = search needs
@@ -65,18 +80,14 @@ complement-requires : tie.Need-complement-requires
 complement-requires c κs = search needs
 
 returns-3 : tie.Need-returns-3
-returns-3 c =
-    let input = c .before .before .before .before .before .before .before .before .before .before .args .input .now in
-    sym (found-other-check input (λ h. c .if3 .taken (last-place input (omega (arith, long (c .before .before .before .before .before .before .before))) ∙ h ∙ sym (checked (c .before)))))
+returns-3 c = sym (found-other-check (inputOf (framedThen (c .before))) (λ h. c .if3 .taken (last (c .before) ∙ h ∙ sym (checked (c .before)))))
 
 returns-4 : tie.Need-returns-4
 returns-4 c =
-    let input = c .before .before .before .before .before .before .before .before .before .before .args .input .now in
-    let s = scanned (c .before .before .before .before .before) in
-    let a = c .before .before .before .before .is-allowed in
-    ap (λ (s : Scan). s .count) s
-    ∙ sym (found-frame input (is-framed-then (c .before .before .before .before .before .before .before)) (ap (λ (s : Scan). allowed (s .count)) (sym s) ∙ sym (a .ensures) ∙ not-false (a .result) (c .before .before .before .if2 .left))
-    (sym (last-place input (omega (arith, long (c .before .before .before .before .before .before .before)))) ∙ c .if3 .left ∙ checked (c .before)))
+    let k = allowedThen (c .before) in
+    ap (λ (s : Scan). s .count) (scanned (k .before))
+    ∙ sym (found-frame (inputOf (framedThen (c .before))) (is-framed-then (framedThen (c .before))) (sym (counted k) ∙ not-false (k .is-allowed .result) (c .before .before .before .if2 .left))
+    (sym (last (c .before)) ∙ c .if3 .left ∙ checked (c .before)))
 
 pub data-length-spec : {M : Type 1} → statement M
 data-length-spec =

@@ -41,7 +41,9 @@ shared-slice-read-result c = search needs
 
 returns-5 : tie.Need-returns-5
 unfolding framed
-returns-5 c = rw (le-leb _ _ (c .before .before .before .before .before .before .before .if1 .left), eq-eqb _ _ (c .before .before .before .before .before .if2 .left), eq-eqb _ _ (c .before .before .before .if3 .left), eq-eqb _ _ (c .before .if4 .left))
+returns-5 c =
+    let s = c .before .before .before in
+    rw (le-leb _ _ (s .before .before .before .before .if1 .left), eq-eqb _ _ (s .before .before .if2 .left), eq-eqb _ _ (s .if3 .left), eq-eqb _ _ (c .before .if4 .left))
 
 pub is-framed-spec : {M : Type 1} → statement M
 is-framed-spec =

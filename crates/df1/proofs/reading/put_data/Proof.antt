@@ -4,14 +4,13 @@ use Rattle.df1.proofs.Laws.{undoubled-next}
 use native.Mathlib.Omega.{arith}
 use Prim.Native.Nat.{_≤_, _+_, _-_}
 use lib.Dec.{eqb}
-use mathlib.Core.List.{List, _∷_}
+use mathlib.Core.List.{_∷_}
 use lib.ListN.{length, getD, drop, length-set, drop-of-length-le}
 use mathlib.Core.Path.{_≡_, refl, sym, ap, _∙_}
 use mathlib.Core.Bool.{cond}
 use lib.Seq.{sets}
 use native.Mathlib.Nat.{add-zero}
 use native.Mathlib.Numerals.{add-one}
-use borrow.Author.Needs.{needs}
 use Rattle.df1.proofs.reading.put_data.Statement.{statement}
 use Rattle.df1.proofs.reading.put_data.Tie as tie
 

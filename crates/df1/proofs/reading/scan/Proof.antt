@@ -8,7 +8,6 @@ use lib.ListN.{length, drop, drop-of-length-le}
 use mathlib.Core.Path.{_≡_, refl, sym, ap, _∙_}
 use mathlib.Core.Bool.{true}
 use mathlib.Core.List.{List}
-use borrow.Author.Needs.{needs}
 use Rattle.df1.proofs.reading.scan.Statement.{statement}
 use Rattle.df1.proofs.reading.scan.Tie as tie
 
@@ -67,8 +66,10 @@ shared-slice-read-if3 c = omega arith
 returns-2 : tie.Need-returns-2 Inv-loop μ-loop
 unfolding scanOf
 returns-2 c =
-    let l = c .before .before .before .before .before .before .loop in
-    rw (sym (l .inv .3) ∙ paired-one (c .before .before .before .before .before .before .before .before .args .body .now) (l .at) (c .before .before .before .before .before .loop-test .taken) (c .before .before .before .if1 .left) (c .before .before .if2 .left) (c .if3 .taken))
+    let one = c .before .before .before in
+    let l = one .before .before .before .loop in
+    let body = one .before .before .before .before .before .args .body .now in
+    rw (sym (l .inv .3) ∙ paired-one body (l .at) (one .before .before .loop-test .taken) (one .if1 .left) (c .before .before .if2 .left) (c .if3 .taken))
 
 wrapping-add-u8-requires-2 : tie.Need-wrapping-add-u8-requires-2 Inv-loop μ-loop
 wrapping-add-u8-requires-2 c κs = tt
@@ -82,17 +83,17 @@ loop-less-2 c = omega arith
 loop-again-2 : tie.Need-loop-again-2 Inv-loop μ-loop
 unfolding sumOf
 loop-again-2 c =
-    let l = c .before .before .before .before .before .before .before .loop in
-    let body = c .before .before .before .before .before .before .before .before .before .args .body .now in
-    let within = c .before .before .before .before .before .before .loop-test .taken in
-    let is = c .before .before .before .before .if1 .left in
-    let e = undoubled-dle body (l .at) within is in (
+    let one = c .before .before .before .before in
+    let l = one .before .before .before .loop in
+    let body = one .before .before .before .before .before .args .body .now in
+    let within = one .before .before .loop-test .taken in
+    let e = undoubled-dle body (l .at) within (one .if1 .left) in (
       omega (arith, c .before .before .before .if2 .left),
       omega arith,
       omega (arith, c .wrapping-add-u82 .ensures),
-      sym (paired-two body (l .at) within is (c .before .before .before .if2 .left) (c .before .if3 .left)) ∙ l .inv .3,
+      sym (paired-two body (l .at) within (one .if1 .left) (c .before .before .before .if2 .left) (c .before .if3 .left)) ∙ l .inv .3,
       omega (arith, ap length e, l .inv .4),
-      omega (arith, ap sumOf e, is, c .wrapping-add-u82 .ensures, l .inv .5),
+      omega (arith, ap sumOf e, one .if1 .left, c .wrapping-add-u82 .ensures, l .inv .5),
     )
 
 returns-3 : tie.Need-returns-3 Inv-loop μ-loop

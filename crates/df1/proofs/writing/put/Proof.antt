@@ -1,7 +1,7 @@
 -- `df1::writing::put` meets its contract. Assumes nothing.
 use Prim.Native.Nat.{ℕ, _+_, _≤_, _<_}
 use mathlib.Core.Bool.{Bool, true, false, cond}
-use mathlib.Core.List.{List, [], _∷_}
+use mathlib.Core.List.{[], _∷_}
 use lib.ListN.{length, length-set}
 use native.Mathlib.Numerals.{add-one}
 use native.Mathlib.Omega.{arith}

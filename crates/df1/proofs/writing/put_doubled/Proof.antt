@@ -40,15 +40,16 @@ loop-less c = search needs
 loop-again : tie.Need-loop-again Inv-loop μ-loop
 unfolding sent
 loop-again c =
-    let l = c .before .before .before .before .before .before .loop in
-    let a = c .before .before .before .before .before .before .before .before .before .args in
+    let turn = c .before .before .before .before .before in
+    let l = turn .before .loop in
+    let a = turn .before .before .before .before .args in
     let b = getD (a .bytes .now) (l .k) 0 in
-    let e = doubled-next (a .bytes .now) (l .k) (c .before .before .before .before .before .loop-test .taken) in (
-      omega (arith, c .before .before .before .before .before .loop-test .taken),
-      rw (c .before .before .put .ensures .0) (length-sets (l .out) (l .place) (sent b) ∙ l .inv .1),
-      rw (c .before .before .put .ensures .0, c .before .before .put .ensures .1)
-          (sym (sets-append (l .out) (l .place) (sent b) (doubled (drop (l .k + 1) (a .bytes .now)))) ∙ ap (sets (l .out) (l .place)) (sym e) ∙ l .inv .2),
-      omega (arith, simp length-append at (ap length e), l .inv .3, c .before .before .put .ensures .1),
+    let p = c .before .before .put in
+    let e = doubled-next (a .bytes .now) (l .k) (turn .loop-test .taken) in (
+      omega (arith, turn .loop-test .taken),
+      rw (p .ensures .0) (length-sets (l .out) (l .place) (sent b) ∙ l .inv .1),
+      rw (p .ensures .0, p .ensures .1) (sym (sets-append (l .out) (l .place) (sent b) (doubled (drop (l .k + 1) (a .bytes .now)))) ∙ ap (sets (l .out) (l .place)) (sym e) ∙ l .inv .2),
+      omega (arith, simp length-append at (ap length e), l .inv .3, p .ensures .1),
       l .inv .4,
     )
 

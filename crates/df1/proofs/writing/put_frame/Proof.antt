@@ -1,13 +1,12 @@
 -- `df1::writing::put_frame` meets its contract: its stores, one after another, are those of the frame. Assumes nothing.
-use Rattle.df1.specs.Frame.{doubled, checkByte, frameOf}
 use Rattle.df1.proofs.Laws.{frame-stores}
 use Rattle.df1.proofs.Parts.{frame-length}
 use native.Mathlib.Omega.{arith}
 use Prim.Native.Nat.{ℕ, _+_, _≤_}
 use lib.ListN.{length, set, length-set}
 use lib.Seq.{sets, length-sets}
-use mathlib.Core.List.{List, [], _∷_}
-use mathlib.Core.Path.{_≡_, sym, ap, _∙_}
+use mathlib.Core.List.{[], _∷_}
+use mathlib.Core.Path.{_≡_, ap, _∙_}
 use borrow.Author.Needs.{needs}
 use Rattle.df1.proofs.writing.put_frame.Statement.{statement}
 use Rattle.df1.proofs.writing.put_frame.Tie as tie
@@ -47,16 +46,18 @@ put-requires c κs = simp length-set (omega (arith, ended (c .before .before .be
 
 same-length : tie.Need-same-length
 same-length c =
-    let l : length (c .before .before .put .last .0) ≡ length (c .before .before .before .before .before .before .before .before .before .before .before .args .out .now) = rw (c .before .before .put .ensures .0) (simp length-set (ended (c .before .before .before .before .before .before) .1)) in
+    let d = c .before .before .before .before .before .before in
+    let l : length (c .before .before .put .last .0) ≡ length (d .before .before .before .before .before .args .out .now) = rw (c .before .before .put .ensures .0) (simp length-set (ended d .1)) in
     l
 
 returns : tie.Need-returns
 returns c =
-    let a = c .before .before .before .before .before .before .before .before .before .before .before .args in
-    let d = c .before .before .before .before .before .before .put-doubled in
+    let d = c .before .before .before .before .before .before in
+    let a = d .before .before .before .before .before .args in
+    let p = d .put-doubled in
     c .before .before .put .ensures .0
-    ∙ ap (λ (b : ℕ). sets (set (set (d .last .0) (d .result) 16) (d .result + 1) 3) (d .result + 2) (b ∷ [])) (c .before .before .before .before .before .before .before .before .check-byte .ensures)
-    ∙ frame-stores (a .out .now) (a .bytes .now) (d .last .0) (d .result) (d .ensures .0) (d .ensures .1)
+    ∙ ap (λ (b : ℕ). sets (set (set (p .last .0) (p .result) 16) (p .result + 1) 3) (p .result + 2) (b ∷ [])) (d .before .before .check-byte .ensures)
+    ∙ frame-stores (a .out .now) (a .bytes .now) (p .last .0) (p .result) (p .ensures .0) (p .ensures .1)
 
 pub put-frame-spec : {M : Type 1} → statement M
 put-frame-spec =

@@ -1,14 +1,14 @@
 -- `df1::writing::write_frame` meets its contract: 15, then 16, then the frame. Assumes nothing.
 use Rattle.df1.specs.Frame.{allowed, frameOf, answerOf, bufferAfter, fits, writeAnswer, writeBuffer}
-use Rattle.df1.specs.Parts.{dleCount}
 use Rattle.df1.proofs.Laws.{dle-count-le, sets-start, and-right}
 use Rattle.df1.proofs.Answers.{frame-size, fits-not, fits-whole, write-not-allowed, write-allowed}
 use native.Mathlib.Omega.{arith}
 use borrow.Author.Tests.{not-true, not-false, leb-true}
-use Prim.Native.Nat.{ℕ, _+_, _≤_}
+use Prim.Native.Nat.{ℕ, _≤_}
 use lib.ListN.{length}
-use mathlib.Core.Path.{_≡_, refl, sym, ap, _∙_}
-use mathlib.Core.Bool.{true, false}
+use mathlib.Core.List.{List}
+use mathlib.Core.Path.{_≡_, sym, ap, _∙_}
+use mathlib.Core.Bool.{true}
 use lib.Dec.{ltb, leb}
 use Rattle.df1.specs.declared.Answer.{Answer}
 use Rattle.df1.specs.declared.Outcome.the-variants.{Accepted}
@@ -16,25 +16,33 @@ use borrow.Author.Needs.{needs}
 use Rattle.df1.proofs.writing.write_frame.Statement.{statement}
 use Rattle.df1.proofs.writing.write_frame.Tie as tie
 
+-- the data, and the lent buffer, of a call with allowed data
+abbrev bytesOf : tie.Else1 → List ℕ
+bytesOf c = c .before .before .before .before .args .bytes .now
+
+abbrev outOf : tie.Else1 → List ℕ
+outOf c = c .before .before .before .before .args .out .now
+
 -- what the tests have shown by then
-is-allowed-then : (c : tie.Else1) → allowed (length (c .before .before .before .before .args .bytes .now)) ≡ true
+is-allowed-then : (c : tie.Else1) → allowed (length (bytesOf c)) ≡ true
 is-allowed-then c = sym (c .before .is-allowed .ensures) ∙ not-false (c .before .is-allowed .result) (c .if1 .left)
 
-short : (c : tie.Else1) → length (c .before .before .before .before .args .bytes .now) ≤ 244
-short c =
-    let n = length (c .before .before .before .before .args .bytes .now) in
-    leb-true n 244 (and-right (ltb 0 n) (leb n 244) (is-allowed-then c))
+short : (c : tie.Else1) → length (bytesOf c) ≤ 244
+short c = leb-true (length (bytesOf c)) 244 (and-right (ltb 0 (length (bytesOf c))) (leb (length (bytesOf c)) 244) (is-allowed-then c))
 
 -- the answer by the frame's length
-fitted : (c : tie.After-fitting) → c .fitting .result ≡ answerOf (fits (length (frameOf (c .before .before .before .before .before .before .args .bytes .now))) (length (c .before .before .before .before .before .before .args .out .now))) (length (frameOf (c .before .before .before .before .before .before .args .bytes .now)))
+fitted : (c : tie.After-fitting) → let allowed = c .before .before in
+    c .fitting .result ≡ answerOf (fits (length (frameOf (bytesOf allowed))) (length (outOf allowed))) (length (frameOf (bytesOf allowed)))
 fitted c =
-    let bytes = c .before .before .before .before .before .before .args .bytes .now in
-    let room = length (c .before .before .before .before .before .before .args .out .now) in
-    c .fitting .ensures ∙ ap (λ (n : ℕ). answerOf (fits n room) n) (omega (arith, frame-size bytes, c .before .dle-count .ensures))
+    let allowed = c .before .before in
+    c .fitting .ensures ∙ ap (λ (n : ℕ). answerOf (fits n (length (outOf allowed))) n) (omega (arith, frame-size (bytesOf allowed), c .before .dle-count .ensures))
 
-whole : (c : tie.Else2) → (fits (length (frameOf (c .before .before .before .before .before .before .before .before .args .bytes .now))) (length (c .before .before .before .before .before .before .before .before .args .out .now)) ≡ Accepted) × (length (frameOf (c .before .before .before .before .before .before .before .before .args .bytes .now)) ≤ length (c .before .before .before .before .before .before .before .before .args .out .now))
+abbrev allowedThen : tie.Else2 → tie.Else1
+allowedThen c = c .before .before .before .before
+
+whole : (c : tie.Else2) → (fits (length (frameOf (bytesOf (allowedThen c)))) (length (outOf (allowedThen c))) ≡ Accepted) × (length (frameOf (bytesOf (allowedThen c))) ≤ length (outOf (allowedThen c)))
 whole c =
-    fits-whole (length (frameOf (c .before .before .before .before .before .before .before .before .args .bytes .now))) (length (c .before .before .before .before .before .before .before .before .args .out .now)) (λ e. c .if2 .left (ap (λ (r : Answer). r .length) (fitted (c .before .before)) ∙ e))
+    fits-whole (length (frameOf (bytesOf (allowedThen c)))) (length (outOf (allowedThen c))) (λ e. c .if2 .left (ap (λ (r : Answer). r .length) (fitted (c .before .before)) ∙ e))
 
 is-allowed-requires : tie.Need-is-allowed-requires
 is-allowed-requires c κs = search needs
@@ -53,10 +61,10 @@ dle-count-requires : tie.Need-dle-count-requires
 dle-count-requires c κs = search needs
 
 add-fitting : tie.Need-add-fitting
-add-fitting c = omega (arith, short (c .before), dle-count-le (c .before .before .before .before .before .args .bytes .now), c .dle-count .ensures)
+add-fitting c = omega (arith, short (c .before), dle-count-le (bytesOf (c .before)), c .dle-count .ensures)
 
 add-fitting-2 : tie.Need-add-fitting-2
-add-fitting-2 c = omega (arith, short (c .before), dle-count-le (c .before .before .before .before .before .args .bytes .now), c .dle-count .ensures)
+add-fitting-2 c = omega (arith, short (c .before), dle-count-le (bytesOf (c .before)), c .dle-count .ensures)
 
 fitting-requires : tie.Need-fitting-requires
 fitting-requires c κs = search needs
@@ -64,11 +72,10 @@ fitting-requires c κs = search needs
 returns-2 : tie.Need-returns-2
 unfolding writeAnswer writeBuffer bufferAfter
 returns-2 c =
-    let a = c .before .before .before .before .before .before .before .before .args in
-    let n = length (frameOf (a .bytes .now)) in
+    let allowed = c .before .before .before .before in
     let h = fitted (c .before .before) in
-    let w = write-allowed (a .bytes .now) (length (a .out .now)) (is-allowed-then (c .before .before .before .before)) in
-    let o = fits-not n (length (a .out .now)) (omega (arith, frame-size (a .bytes .now))) (ap (λ (r : Answer). r .length) (sym h) ∙ c .if2 .taken) in
+    let w = write-allowed (bytesOf allowed) (length (outOf allowed)) (is-allowed-then allowed) in
+    let o = fits-not (length (frameOf (bytesOf allowed))) (length (outOf allowed)) (omega (arith, frame-size (bytesOf allowed))) (ap (λ (r : Answer). r .length) (sym h) ∙ c .if2 .taken) in
     (h ∙ rw w, rw (w, o))
 
 put-frame-requires : tie.Need-put-frame-requires
@@ -80,10 +87,11 @@ same-length c = search needs
 returns-3 : tie.Need-returns-3
 unfolding writeAnswer writeBuffer bufferAfter
 returns-3 c =
-    let a = c .before .before .before .before .before .before .before .before .before .before .before .before .args in
-    let w = write-allowed (a .bytes .now) (length (a .out .now)) (is-allowed-then (c .before .before .before .before .before .before .before .before)) in
-    let fit = whole (c .before .before .before .before) in
-    (fitted (c .before .before .before .before .before .before) ∙ rw w, c .before .before .put-frame .ensures ∙ sets-start (a .out .now) (frameOf (a .bytes .now)) (fit .1) ∙ rw (w, fit .0))
+    let fits = c .before .before .before .before in
+    let bytes = bytesOf (allowedThen fits) in
+    let out = outOf (allowedThen fits) in
+    let w = write-allowed bytes (length out) (is-allowed-then (allowedThen fits)) in
+    (fitted (fits .before .before) ∙ rw w, c .before .before .put-frame .ensures ∙ sets-start out (frameOf bytes) (whole fits .1) ∙ rw (w, whole fits .0))
 
 pub write-frame-spec : {M : Type 1} → statement M
 write-frame-spec =

@@ -1,5 +1,4 @@
 -- `replay::frames::answer` is safe: the room has any capacity. Assumes nothing.
-use Prim.Native.Nat.{_≤_}
 use mathlib.Core.Path.{sym}
 use lib.Seq.{length-take-le}
 use native.Mathlib.Omega.{arith}

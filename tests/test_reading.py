@@ -54,6 +54,18 @@ class Names(unittest.TestCase):
                 self.assertGreaterEqual(len(names & edits), 2, row)
                 self.assert_declared(names - edits, code)
 
+    def test_the_serial_link_names_definitions_calls_edits_and_theorems(self):
+        edits = {os.path.splitext(os.path.basename(path))[0] for path in glob.glob(os.path.join(ROOT, "crates/df1/must-fail/*.edit"))}
+        sentences, calls, theorems = section("The serial link").split("\n|---")[1:]
+        self.assertGreater(len(named(sentences)), 15)
+        self.assert_declared(named(sentences), all_of("crates/df1/specs/*.antt"))
+        for row in [line for line in calls.splitlines() if "`df1::" in line]:
+            self.assertGreaterEqual(len(named(row) & edits), 2, row)
+        self.assertEqual(edits - named(calls), set())
+        self.assert_declared(named(calls) - edits - {"df1"}, all_of("crates/df1/src/*.rt") + all_of("crates/df1/specs/*.antt"))
+        self.assertGreater(len(named(theorems)), 15)
+        self.assert_declared(named(theorems), all_of("crates/df1/proofs/*.antt"))
+
     def test_the_history_names_definitions(self):
         self.assert_declared(named(section("The history, sentence by sentence")), all_of("crates/rules/specs/*.antt"))
 

@@ -1,11 +1,12 @@
 // frame: DF1 frames for the laptop. `frame write` takes data on standard input and writes their frame to standard output, `frame read` takes a frame and writes its data.
+use df1::Answer;
 use df1::LONGEST_FRAME;
-use df1::MOST_DATA;
 use df1::Outcome;
 use libc::STDERR_FILENO;
 use libc::STDIN_FILENO;
 use libc::STDOUT_FILENO;
 ghost use mathlib.Core.Path.{_≡_};
+ghost use Rattle.io.specs.Counts.{Counts};
 
 fn usage() {
     io::write_all(STDERR_FILENO, b"usage: frame write | frame read\n");
@@ -22,24 +23,21 @@ fn tell(o: Outcome) {
     io::write_all(STDERR_FILENO, b"\n");
 }
 
-// Data to their frame. One byte more than the most data tells a longer input.
-fn write() {
-    let mut input = [0u8; MOST_DATA + 1];
-    let mut out = [0u8; LONGEST_FRAME];
-    let got = io::read_full(STDIN_FILENO, &mut input);
-    let a = df1::write_frame(&input[..got], &mut out);
-    let n = a.length;
-    io::write_all(STDOUT_FILENO, &out[..n]);
-    let o = a.outcome;
-    tell(o);
+fn made(writes: bool, bytes: &[u8], out: &mut [u8]) -> Answer
+    ensures { λ r. ⌜ Counts (r .length) (now (out .exit)) ⌝ }
+{
+    if writes {
+        return df1::write_frame(bytes, out);
+    }
+    df1::read_frame(bytes, out)
 }
 
-// A frame to its data. One byte more than the longest frame tells a longer input.
-fn read() {
+// Standard input through the writer or the reader. One byte more than the longest frame tells a longer one, and longer data too.
+fn run(writes: bool) {
     let mut input = [0u8; LONGEST_FRAME + 1];
-    let mut out = [0u8; MOST_DATA];
+    let mut out = [0u8; LONGEST_FRAME];
     let got = io::read_full(STDIN_FILENO, &mut input);
-    let a = df1::read_frame(&input[..got], &mut out);
+    let a = made(writes, &input[..got], &mut out);
     let n = a.length;
     io::write_all(STDOUT_FILENO, &out[..n]);
     let o = a.outcome;
@@ -54,11 +52,11 @@ fn main() {
         return;
     }
     if check::same(&word[..n], b"write") {
-        write();
+        run(true);
         return;
     }
     if check::same(&word[..n], b"read") {
-        read();
+        run(false);
         return;
     }
     usage();

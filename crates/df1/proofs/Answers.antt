@@ -11,7 +11,7 @@ use borrow.Author.Tests.{leb-true}
 use Rattle.df1.specs.declared.Refusal.the-variants.{DataLength, ShortBuffer, NotAFrame}
 use Rattle.df1.specs.declared.Outcome.{Outcome}
 use Rattle.df1.specs.declared.Outcome.the-variants.{Accepted, Refused}
-use Rattle.df1.specs.Frame.{allowed, frameOf, dataOf, isFrame, fits, writeOutcome, readOutcome, answerOf, bufferAfter, writeAnswer, writeBuffer, readAnswer, readBuffer}
+use Rattle.df1.specs.Frame.{allowed, frameOf, dataOf, isFrame, fitOutcome, writeOutcome, readOutcome, answerOf, bufferAfter, writeAnswer, writeBuffer, readAnswer, readBuffer}
 use Rattle.df1.specs.Parts.{dleCount}
 use Rattle.df1.proofs.Laws.{doubled-length}
 use Rattle.df1.proofs.Parts.{frame-length}
@@ -22,16 +22,16 @@ frame-size bytes = omega (arith, frame-length bytes, doubled-length bytes)
 
 -- bytes that fit are put, and only those
 module _ (n room : ℕ) where
-  pub fits-not : 0 < n → answerOf (fits n room) n .length ≡ 0 → fits n room ≡ Refused ShortBuffer
-  unfolding fits answerOf
+  pub fits-not : 0 < n → answerOf (fitOutcome n room) n .length ≡ 0 → fitOutcome n room ≡ Refused ShortBuffer
+  unfolding fitOutcome answerOf
   fits-not some = go (leb n room)
     where
       go : (is : Bool) → answerOf (cond is Accepted (Refused ShortBuffer)) n .length ≡ 0 → cond is Accepted (Refused ShortBuffer) ≡ Refused ShortBuffer
       go true h = absurd (omega arith)
       go false h = refl
 
-  pub fits-whole : (answerOf (fits n room) n .length ≡ 0 → ⊥) → (fits n room ≡ Accepted) × (n ≤ room)
-  unfolding fits answerOf
+  pub fits-whole : (answerOf (fitOutcome n room) n .length ≡ 0 → ⊥) → (fitOutcome n room ≡ Accepted) × (n ≤ room)
+  unfolding fitOutcome answerOf
   fits-whole = go (leb n room) refl
     where
       go : (is : Bool) → leb n room ≡ is → (answerOf (cond is Accepted (Refused ShortBuffer)) n .length ≡ 0 → ⊥) → (cond is Accepted (Refused ShortBuffer) ≡ Accepted) × (n ≤ room)
@@ -42,7 +42,7 @@ pub write-not-allowed : (bytes : List ℕ) (room : ℕ) → allowed (length byte
 unfolding writeOutcome
 write-not-allowed bytes room h = rw h
 
-pub write-allowed : (bytes : List ℕ) (room : ℕ) → allowed (length bytes) ≡ true → writeOutcome bytes room ≡ fits (length (frameOf bytes)) room
+pub write-allowed : (bytes : List ℕ) (room : ℕ) → allowed (length bytes) ≡ true → writeOutcome bytes room ≡ fitOutcome (length (frameOf bytes)) room
 unfolding writeOutcome
 write-allowed bytes room h = rw h
 
@@ -50,7 +50,7 @@ pub read-no-frame : (input : List ℕ) (room : ℕ) → isFrame input ≡ false 
 unfolding readOutcome
 read-no-frame input room h = rw h
 
-pub read-frame : (input : List ℕ) (room : ℕ) → isFrame input ≡ true → readOutcome input room ≡ fits (length (dataOf input)) room
+pub read-frame : (input : List ℕ) (room : ℕ) → isFrame input ≡ true → readOutcome input room ≡ fitOutcome (length (dataOf input)) room
 unfolding readOutcome
 read-frame input room h = rw h
 

@@ -13,7 +13,7 @@ use Rattle.df1.specs.declared.Refusal.{Refusal}
 use Rattle.df1.specs.declared.Refusal.the-variants.{DataLength, ShortBuffer, NotAFrame}
 use Rattle.df1.specs.declared.Outcome.{Outcome}
 use Rattle.df1.specs.declared.Outcome.the-variants.{Accepted, Refused}
-use Rattle.df1.specs.Frame.{dle, allowed, sent, doubled, frameOf, dataOf, same, isFrame, fits, writeOutcome, readOutcome, answerOf, bufferAfter, writeAnswer, writeBuffer, readAnswer, readBuffer}
+use Rattle.df1.specs.Frame.{dle, allowed, sent, doubled, frameOf, dataOf, same, isFrame, fitOutcome, writeOutcome, readOutcome, answerOf, bufferAfter, writeAnswer, writeBuffer, readAnswer, readBuffer}
 use Rattle.df1.proofs.Laws.{and-left, and-right, dle-count-le, same-true, same-refl}
 use Rattle.df1.proofs.Parts.{frame-data}
 use Rattle.df1.proofs.Answers.{frame-size}
@@ -131,14 +131,14 @@ is-false false h = refl
 
 -- "15 for data of 0 or over 244 bytes on writing"
 pub write-refused-15 : (bytes : List ℕ) (room : ℕ) → Exactly (writeOutcome bytes room ≡ Refused DataLength) (Allowed bytes → ⊥)
-unfolding Exactly writeOutcome fits decided
+unfolding Exactly writeOutcome fitOutcome decided
 write-refused-15 bytes room =
     let e = turned-away DataLength length-apart (allowed (length bytes)) (leb (length (frameOf bytes)) room) in
     (λ h a. false≢true (sym (e .0 h) ∙ allowed-true bytes a), λ h. e .1 (is-false (allowed (length bytes)) (λ t. h (true-allowed bytes t))))
 
 -- "16, after 15, for a buffer shorter than the frame"
 pub write-refused-16 : (bytes : List ℕ) (room : ℕ) → Exactly (writeOutcome bytes room ≡ Refused ShortBuffer) (Allowed bytes × (room < length (frameOf bytes)))
-unfolding Exactly writeOutcome fits decided
+unfolding Exactly writeOutcome fitOutcome decided
 write-refused-16 bytes room =
     let e = too-short DataLength length-apart (allowed (length bytes)) (leb (length (frameOf bytes)) room) in (
       λ h. let b = e .0 h in (true-allowed bytes (b .0), leb-false (length (frameOf bytes)) room (b .1)),
@@ -146,7 +146,7 @@ write-refused-16 bytes room =
     )
 
 pub write-accepted : (bytes : List ℕ) (room : ℕ) → Exactly (writeOutcome bytes room ≡ Accepted) (Allowed bytes × (length (frameOf bytes) ≤ room))
-unfolding Exactly writeOutcome fits decided
+unfolding Exactly writeOutcome fitOutcome decided
 write-accepted bytes room =
     let e = taken DataLength length-apart (allowed (length bytes)) (leb (length (frameOf bytes)) room) in (
       λ h. let b = e .0 h in (true-allowed bytes (b .0), leb-true (length (frameOf bytes)) room (b .1)),
@@ -155,14 +155,14 @@ write-accepted bytes room =
 
 -- "17 on reading anything but one whole frame with 1 to 244 data bytes"
 pub read-refused-17 : (input : List ℕ) (room : ℕ) → Exactly (readOutcome input room ≡ Refused NotAFrame) ((bytes : List ℕ) → FrameOf bytes input → ⊥)
-unfolding Exactly readOutcome fits decided
+unfolding Exactly readOutcome fitOutcome decided
 read-refused-17 input room =
     let e = turned-away NotAFrame frame-apart (isFrame input) (leb (length (dataOf input)) room) in
     (λ h bytes f. false≢true (sym (e .0 h) ∙ one-reading bytes input f .0), λ h. e .1 (is-false (isFrame input) (λ t. h (dataOf input) (accepted-frame input t))))
 
 -- "and after it 16 when the lent buffer is shorter than the data"
 pub read-refused-16 : (input : List ℕ) (room : ℕ) → Exactly (readOutcome input room ≡ Refused ShortBuffer) ((bytes : List ℕ) × FrameOf bytes input × (room < length bytes))
-unfolding Exactly readOutcome fits decided
+unfolding Exactly readOutcome fitOutcome decided
 read-refused-16 input room =
     let e = too-short NotAFrame frame-apart (isFrame input) (leb (length (dataOf input)) room) in (
       λ h. let b = e .0 h in (dataOf input, accepted-frame input (b .0), leb-false (length (dataOf input)) room (b .1)),
@@ -170,7 +170,7 @@ read-refused-16 input room =
     )
 
 pub read-accepted : (input : List ℕ) (room : ℕ) → Exactly (readOutcome input room ≡ Accepted) ((bytes : List ℕ) × FrameOf bytes input × (length bytes ≤ room))
-unfolding Exactly readOutcome fits decided
+unfolding Exactly readOutcome fitOutcome decided
 read-accepted input room =
     let e = taken NotAFrame frame-apart (isFrame input) (leb (length (dataOf input)) room) in (
       λ h. let b = e .0 h in (dataOf input, accepted-frame input (b .0), leb-true (length (dataOf input)) room (b .1)),

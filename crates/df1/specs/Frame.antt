@@ -93,16 +93,16 @@ outcomeNumber Accepted = 0
 outcomeNumber (Refused why) = numberOf why
 
 -- 16 for a lent buffer that is shorter than what is to be put into it
-unfoldable pub fits : ℕ → ℕ → Outcome
-fits n room = cond (leb n room) Accepted (Refused ShortBuffer)
+unfoldable pub fitOutcome : ℕ → ℕ → Outcome
+fitOutcome n room = cond (leb n room) Accepted (Refused ShortBuffer)
 
 -- "15 for data of 0 or over 244 bytes on writing; 16, after 15, for a buffer shorter than the frame"
 unfoldable pub writeOutcome : List ℕ → ℕ → Outcome
-writeOutcome bytes room = cond (allowed (length bytes)) (fits (length (frameOf bytes)) room) (Refused DataLength)
+writeOutcome bytes room = cond (allowed (length bytes)) (fitOutcome (length (frameOf bytes)) room) (Refused DataLength)
 
 -- "17 on reading anything but one whole frame with 1 to 244 data bytes, and after it 16 when the lent buffer is shorter than the data"
 unfoldable pub readOutcome : List ℕ → ℕ → Outcome
-readOutcome input room = cond (isFrame input) (fits (length (dataOf input)) room) (Refused NotAFrame)
+readOutcome input room = cond (isFrame input) (fitOutcome (length (dataOf input)) room) (Refused NotAFrame)
 
 -- "each gives the length": of what was put into the buffer, so 0 on a refusal
 unfoldable pub answerOf : Outcome → ℕ → Answer

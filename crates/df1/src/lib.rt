@@ -77,7 +77,7 @@ fn refused(why: Refusal) -> Answer
 
 // So many bytes are put into a buffer with so much room, or none.
 fn fitting(n: usize, room: usize) -> Answer
-    ensures { λ r. ⌜ r ≡ frame.answerOf (frame.fits n room) n ⌝ }
+    ensures { λ r. ⌜ r ≡ frame.answerOf (frame.fitOutcome n room) n ⌝ }
 {
     if room < n {
         return refused(Refusal::ShortBuffer);

@@ -1,5 +1,5 @@
 -- `df1::reading::read_frame` meets its contract: 17, then 16, then the data. Assumes nothing.
-use Rattle.df1.specs.Frame.{dataOf, undoubled, isFrame, answerOf, bufferAfter, fits, readAnswer, readBuffer}
+use Rattle.df1.specs.Frame.{dataOf, undoubled, isFrame, answerOf, bufferAfter, fitOutcome, readAnswer, readBuffer}
 use Rattle.df1.specs.Parts.{foundLength}
 use Rattle.df1.proofs.Laws.{sets-start}
 use Rattle.df1.proofs.Parts.{inside-part, frame-long, found-some, no-frame, frame-some}
@@ -35,13 +35,13 @@ found c = c .before .data-length .ensures ∙ rw (is-frame c)
 long : (c : tie.Else1) → 5 ≤ length (inputOf c)
 long c = frame-long (inputOf c) (is-frame c)
 
-fitted : (c : tie.After-fitting) → c .fitting .result ≡ answerOf (fits (length (dataOf (inputOf (c .before)))) (length (outOf (c .before)))) (length (dataOf (inputOf (c .before))))
+fitted : (c : tie.After-fitting) → c .fitting .result ≡ answerOf (fitOutcome (length (dataOf (inputOf (c .before)))) (length (outOf (c .before)))) (length (dataOf (inputOf (c .before))))
 fitted c = rw (found (c .before)) at (c .fitting .ensures)
 
 abbrev frameThen : tie.Else2 → tie.Else1
 frameThen c = c .before .before .before
 
-whole : (c : tie.Else2) → (fits (length (dataOf (inputOf (frameThen c)))) (length (outOf (frameThen c))) ≡ Accepted) × (length (dataOf (inputOf (frameThen c))) ≤ length (outOf (frameThen c)))
+whole : (c : tie.Else2) → (fitOutcome (length (dataOf (inputOf (frameThen c)))) (length (outOf (frameThen c))) ≡ Accepted) × (length (dataOf (inputOf (frameThen c))) ≤ length (outOf (frameThen c)))
 whole c =
     fits-whole (length (dataOf (inputOf (frameThen c)))) (length (outOf (frameThen c))) (λ e. c .if2 .left (ap (λ (r : Answer). r .length) (fitted (c .before .before)) ∙ e))
 
@@ -64,10 +64,10 @@ fitting-requires c κs = search needs
 returns-2 : tie.Need-returns-2
 unfolding readAnswer readBuffer bufferAfter
 returns-2 c =
-    let found = c .before .before .before in
+    let tested = c .before .before .before in
     let h = fitted (c .before .before) in
-    let r = read-frame (inputOf found) (length (outOf found)) (is-frame found) in
-    let o = fits-not (length (dataOf (inputOf found))) (length (outOf found)) (frame-some (inputOf found) (is-frame found)) (ap (λ (r : Answer). r .length) (sym h) ∙ c .if2 .taken) in
+    let r = read-frame (inputOf tested) (length (outOf tested)) (is-frame tested) in
+    let o = fits-not (length (dataOf (inputOf tested))) (length (outOf tested)) (frame-some (inputOf tested) (is-frame tested)) (ap (λ (r : Answer). r .length) (sym h) ∙ c .if2 .taken) in
     (h ∙ rw r, rw (r, o))
 
 sub-end : tie.Need-sub-end
@@ -92,12 +92,12 @@ same-length c = search needs
 returns-3 : tie.Need-returns-3
 unfolding readAnswer readBuffer bufferAfter dataOf
 returns-3 c =
-    let fits = c .before .before .before .before .before in
-    let input = inputOf (frameThen fits) in
-    let out = outOf (frameThen fits) in
-    let r = read-frame input (length out) (is-frame (frameThen fits)) in (
-      fitted (fits .before .before) ∙ rw r,
-      c .before .before .put-data .ensures ∙ ap (λ (body : List ℕ). sets out 0 (undoubled body)) (inside-part input) ∙ sets-start out (dataOf input) (whole fits .1) ∙ rw (r, whole fits .0),
+    let enough = c .before .before .before .before .before in
+    let input = inputOf (frameThen enough) in
+    let out = outOf (frameThen enough) in
+    let r = read-frame input (length out) (is-frame (frameThen enough)) in (
+      fitted (enough .before .before) ∙ rw r,
+      c .before .before .put-data .ensures ∙ ap (λ (body : List ℕ). sets out 0 (undoubled body)) (inside-part input) ∙ sets-start out (dataOf input) (whole enough .1) ∙ rw (r, whole enough .0),
     )
 
 pub read-frame-spec : {M : Type 1} → statement M

@@ -1,5 +1,5 @@
 -- `df1::writing::write_frame` meets its contract: 15, then 16, then the frame. Assumes nothing.
-use Rattle.df1.specs.Frame.{allowed, frameOf, answerOf, bufferAfter, fits, writeAnswer, writeBuffer}
+use Rattle.df1.specs.Frame.{allowed, frameOf, answerOf, bufferAfter, fitOutcome, writeAnswer, writeBuffer}
 use Rattle.df1.proofs.Laws.{dle-count-le, sets-start, and-right}
 use Rattle.df1.proofs.Answers.{frame-size, fits-not, fits-whole, write-not-allowed, write-allowed}
 use native.Mathlib.Omega.{arith}
@@ -31,16 +31,16 @@ short : (c : tie.Else1) → length (bytesOf c) ≤ 244
 short c = leb-true (length (bytesOf c)) 244 (and-right (ltb 0 (length (bytesOf c))) (leb (length (bytesOf c)) 244) (is-allowed-then c))
 
 -- the answer by the frame's length
-fitted : (c : tie.After-fitting) → let allowed = c .before .before in
-    c .fitting .result ≡ answerOf (fits (length (frameOf (bytesOf allowed))) (length (outOf allowed))) (length (frameOf (bytesOf allowed)))
+fitted : (c : tie.After-fitting) → let tested = c .before .before in
+    c .fitting .result ≡ answerOf (fitOutcome (length (frameOf (bytesOf tested))) (length (outOf tested))) (length (frameOf (bytesOf tested)))
 fitted c =
-    let allowed = c .before .before in
-    c .fitting .ensures ∙ ap (λ (n : ℕ). answerOf (fits n (length (outOf allowed))) n) (omega (arith, frame-size (bytesOf allowed), c .before .dle-count .ensures))
+    let tested = c .before .before in
+    c .fitting .ensures ∙ ap (λ (n : ℕ). answerOf (fitOutcome n (length (outOf tested))) n) (omega (arith, frame-size (bytesOf tested), c .before .dle-count .ensures))
 
 abbrev allowedThen : tie.Else2 → tie.Else1
 allowedThen c = c .before .before .before .before
 
-whole : (c : tie.Else2) → (fits (length (frameOf (bytesOf (allowedThen c)))) (length (outOf (allowedThen c))) ≡ Accepted) × (length (frameOf (bytesOf (allowedThen c))) ≤ length (outOf (allowedThen c)))
+whole : (c : tie.Else2) → (fitOutcome (length (frameOf (bytesOf (allowedThen c)))) (length (outOf (allowedThen c))) ≡ Accepted) × (length (frameOf (bytesOf (allowedThen c))) ≤ length (outOf (allowedThen c)))
 whole c =
     fits-whole (length (frameOf (bytesOf (allowedThen c)))) (length (outOf (allowedThen c))) (λ e. c .if2 .left (ap (λ (r : Answer). r .length) (fitted (c .before .before)) ∙ e))
 
@@ -72,10 +72,10 @@ fitting-requires c κs = search needs
 returns-2 : tie.Need-returns-2
 unfolding writeAnswer writeBuffer bufferAfter
 returns-2 c =
-    let allowed = c .before .before .before .before in
+    let tested = c .before .before .before .before in
     let h = fitted (c .before .before) in
-    let w = write-allowed (bytesOf allowed) (length (outOf allowed)) (is-allowed-then allowed) in
-    let o = fits-not (length (frameOf (bytesOf allowed))) (length (outOf allowed)) (omega (arith, frame-size (bytesOf allowed))) (ap (λ (r : Answer). r .length) (sym h) ∙ c .if2 .taken) in
+    let w = write-allowed (bytesOf tested) (length (outOf tested)) (is-allowed-then tested) in
+    let o = fits-not (length (frameOf (bytesOf tested))) (length (outOf tested)) (omega (arith, frame-size (bytesOf tested))) (ap (λ (r : Answer). r .length) (sym h) ∙ c .if2 .taken) in
     (h ∙ rw w, rw (w, o))
 
 put-frame-requires : tie.Need-put-frame-requires
@@ -87,11 +87,11 @@ same-length c = search needs
 returns-3 : tie.Need-returns-3
 unfolding writeAnswer writeBuffer bufferAfter
 returns-3 c =
-    let fits = c .before .before .before .before in
-    let bytes = bytesOf (allowedThen fits) in
-    let out = outOf (allowedThen fits) in
-    let w = write-allowed bytes (length out) (is-allowed-then (allowedThen fits)) in
-    (fitted (fits .before .before) ∙ rw w, c .before .before .put-frame .ensures ∙ sets-start out (frameOf bytes) (whole fits .1) ∙ rw (w, whole fits .0))
+    let enough = c .before .before .before .before in
+    let bytes = bytesOf (allowedThen enough) in
+    let out = outOf (allowedThen enough) in
+    let w = write-allowed bytes (length out) (is-allowed-then (allowedThen enough)) in
+    (fitted (enough .before .before) ∙ rw w, c .before .before .put-frame .ensures ∙ sets-start out (frameOf bytes) (whole enough .1) ∙ rw (w, whole enough .0))
 
 pub write-frame-spec : {M : Type 1} → statement M
 write-frame-spec =

@@ -28,7 +28,7 @@ fn case_of(name: u8) -> Case {
     Case::SMALL
 }
 
-// The checksum of a case. The steps' loop is called in one place, so that the step is compiled into it.
+// The checksum of a case. The steps' loop is called in one place: called from two it is compiled by itself and copies more of the module in each step.
 fn sum_of(name: u8, n: u32) -> u32 {
     match name {
         b'w' => frames_written(n),

@@ -76,7 +76,7 @@ loop-less : tie.Need-loop-less Inv-loop μ-loop
 loop-less c = search needs
 
 loop-again : tie.Need-loop-again Inv-loop μ-loop
-loop-again c = (search needs, search needs, simp length-set (c .before .before .before .before .before .before .before .before .loop .inv .2), search needs)
+loop-again c = (search needs, search needs, simp length-set (search needs), search needs)
 
 returns : tie.Need-returns Inv-loop μ-loop
 returns c = search needs

@@ -1,4 +1,4 @@
--- The parts in which the code reckons the definitions of Frame: how many DLEs data have, and the tests that tell a frame. proofs/Laws.antt ties them to Frame.
+-- The parts in which the code reckons the definitions of Frame: how many DLEs data have, and the tests that tell a frame. proofs/Laws.antt and proofs/Parts.antt tie them to Frame.
 -- Assumes nothing.
 use Prim.Native.Nat.{ℕ, _+_, _-_}
 use mathlib.Core.Bool.{Bool, true, cond, not, _&&_}

@@ -98,7 +98,7 @@ pub fn is_used(block: &[u16; GROUP_BLOCK_WORDS]) -> bool {
 /// The failing bits of word 110 for a used group's block. `left` are the
 /// real and virtual outputs not yet dealt; `has_real_inputs` is false on an
 /// 8511.
-pub fn group_block_errors(
+fn group_block_errors(
     block: &[u16; GROUP_BLOCK_WORDS],
     scale: u16,
     left: [u16; 2],

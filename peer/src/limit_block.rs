@@ -67,7 +67,7 @@ pub(crate) fn advances(block: &[u16; LIMIT_BLOCK_WORDS]) -> [i16; 2] {
 /// The failing bits of word 630 for one output. `assigned` is true in
 /// Independent Mode; `timed_before` counts the timed switches of the
 /// output's kind in lower blocks.
-pub fn limit_block_errors(
+fn limit_block_errors(
     block: &[u16; LIMIT_BLOCK_WORDS],
     scale: u16,
     assigned: bool,

@@ -40,7 +40,7 @@ fn bit(set: u32, number: u16) -> bool {
 }
 
 /// How many virtual outputs differ.
-pub fn changed_count(old: u16, new: u16) -> u32 {
+fn changed_count(old: u16, new: u16) -> u32 {
     (old ^ new).count_ones()
 }
 

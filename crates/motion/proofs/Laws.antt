@@ -9,7 +9,7 @@ use native.Mathlib.Omega.{arith}
 use borrow.Author.Tests.{ltb-true, ltb-false, lt-ltb, le-ltb, leb-false, ne-eqb}
 use lib.Bits.{bitAnd, bitOr, bitXor}
 use lib.Dec.{ltb, leb, eqb, leb·zero, leb·suc-suc, eqb·suc-zero}
-use lib.IntN.{ℤ, pos, negsuc, natAbs, subℕ, _+ℤ_, _-ℤ_}
+use lib.IntN.{pos, negsuc, natAbs, subℕ, _+ℤ_}
 use Rattle.rules.specs.declared.Model.{Model}
 use Rattle.rules.specs.declared.Model.the-variants.{M8511, M8512, M8513}
 use Rattle.rules.specs.declared.IoType.{IoType}
@@ -22,8 +22,8 @@ use Rattle.rules.specs.declared.Sample.{Sample}
 use Rattle.rules.specs.declared.Travel.{Travel}
 use Rattle.rules.specs.declared.Window.{Window}
 use Rattle.rules.specs.Words.{bit, wordOf, forced}
-use Rattle.rules.specs.Motion.{realCount, realInput, inputLevel, turned, scaledPosition, movement, rpmOf, codeNumber, signed, travelValue}
-use Rattle.rules.specs.Card.{biasedMovement, updates, travelOf}
+use Rattle.rules.specs.Motion.{realCount, realInput, inputLevel, turned, scaledPosition, rpmOf, codeNumber, signed, travelValue}
+use Rattle.rules.specs.Card.{biasedMovement, updates}
 use Rattle.rules.proofs.Laws.{modulo-natural}
 use Rattle.rules.proofs.Packing.{packed-same, packed-bit, packed-lt}
 use Rattle.word.proofs.Laws.{xor-bit, not-bit, forces-packed, bit-past}
@@ -107,11 +107,6 @@ pub biased-natural : (last q : ℕ) → biasedMovement (At last) q ≡ (q + (102
 unfolding biasedMovement
 biased-natural last q = rw (difference-add q last 512) (modulo-natural (q + 512) last 1023 ∙ omega arith)
 
--- 01's movement, with its sign
-pub movement-biased : (last q : ℕ) → pos (biasedMovement (At last) q) -ℤ pos 512 ≡ movement q last
-unfolding biasedMovement movement
-movement-biased last q = refl
-
 -- ---- Windows
 
 pub updates-natural : (size : ℕ) (w : Window) → leb size (w .steps + 1) ≡ updates size w
@@ -125,18 +120,6 @@ updates-natural (suc n) w =
 pub steps-below : (size : ℕ) (w : Window) → updates size w ≡ false → w .steps + 1 < size
 unfolding updates
 steps-below size w h = omega (arith, leb-false (size - 1) (w .steps) h)
-
-by-sign : (size sum : ℕ) (t : Bool) → ltb sum (512 * size) ≡ t → travelValue (travelOf size sum) ≡ subℕ sum (512 * size)
-unfolding travelOf
-by-sign size sum true e =
-    let h : sum < 512 * size = ltb-true sum (512 * size) e in
-    let d : 512 * size - sum ≡ suc (512 * size - suc sum) = omega arith in
-    rw (e, d)
-by-sign size sum false e = rw e
-
--- 01's c and C, with their sign: the sum less the 512 of each step
-pub travel-value : (size sum : ℕ) → travelValue (travelOf size sum) ≡ subℕ sum (512 * size)
-travel-value size sum = by-sign size sum (ltb sum (512 * size)) refl
 
 signed-size : (negative : Bool) (n : ℕ) → natAbs (signed negative n) ≡ n
 signed-size true zero = refl

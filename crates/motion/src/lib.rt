@@ -214,24 +214,6 @@ pub fn tach_value(k: Scalars, rpm: u32) -> u64
     (2 * (rpm as u64 * k.multiplier as u64) + d) / (2 * d)
 }
 
-// Tach as it is answered, at most 32767.
-pub fn tach_reading(k: Scalars, rpm: u32) -> u16
-    ensures { λ r. ⌜ r ≡ motion.tachReading k rpm ⌝ }
-{
-    let value = tach_value(k, rpm);
-    if 32767 < value {
-        return 32767;
-    }
-    value as u16
-}
-
-// TachOv.
-pub fn tach_overflow(k: Scalars, rpm: u32) -> bool
-    ensures { λ r. ⌜ r ≡ motion.tachOverflow k rpm ⌝ }
-{
-    32767 < tach_value(k, rpm)
-}
-
 // A motion detector; 0/0 never.
 pub fn detects(d: Detector, rpm: u32) -> bool
     ensures { λ r. ⌜ r ≡ motion.detects d rpm ⌝ }

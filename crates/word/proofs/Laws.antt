@@ -1,16 +1,16 @@
 -- Laws of the rules' words: the digits of `packed`, bits of a bitwise operation, counts over bits, words stored into a file. Callers cite these and open none of the definitions.
 -- Assumes nothing.
 use Prim.Native.Nat.{ℕ, zero, suc, _+_, _*_, _/_, _%_, _-_, _^_, _≤_, _<_, min, max}
-use mathlib.Core.Bool.{Bool, true, false, cond, not, _&&_, _||_, xor}
+use mathlib.Core.Bool.{Bool, true, false, not, _&&_, _||_, xor}
 use mathlib.Core.List.{List, [], _∷_}
 use mathlib.Core.Path.{_≡_, refl, sym, ap, ap₂, _∙_}
 use native.Mathlib.Nat.{lt-of-lt-of-le, lt-of-le-of-lt, zero-add, pow-suc, mul-comm, div-div-eq-div-mul, div-eq-of-lt}
 use native.Mathlib.Numerals.{add-one}
 use native.Mathlib.Omega.{arith}
-use lib.Dec.{leb, eqb, eqb·suc-zero}
+use lib.Dec.{eqb, eqb·suc-zero}
 use lib.ListN.{length, getD, take, set}
 use lib.Pow.{pow-mono}
-use borrow.Author.Tests.{le-leb, eq-eqb, ne-eqb}
+use borrow.Author.Tests.{eq-eqb, ne-eqb}
 use lib.Bits.{bitAnd, bitOr, bitXor, and-step, or-step, xor-step, and-shr, or-shr, xor-shr, and-le-l, differ}
 use lib.Count.{ones, ones-step}
 use mir.Val.{boolByte}
@@ -206,10 +206,6 @@ any-one from to k file a b h =
     some-one (to + 1 - from) from (k - from) (λ n. not (eqb (word file n) 0)) (omega arith) (rw (e, ne-eqb (word file k) 0 h))
 
 -- ---- Words stored into a file
-
--- where they all lie in the file
-pub stored-whole : (at : ℕ) (ws file : List ℕ) → at + length ws ≤ length file → cond (leb (at + length ws) (length file)) (storedAt at ws file) file ≡ storedAt at ws file
-stored-whole at ws file h = rw (le-leb (at + length ws) (length file) h)
 
 -- one word more
 pub stored-more : (at k : ℕ) (ws file : List ℕ) → k < length ws → storedAt at (take (suc k) ws) file ≡ set (storedAt at (take k ws) file) (at + k) (getD ws k 0)

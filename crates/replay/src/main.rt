@@ -3,6 +3,7 @@ mod answer;
 mod frames;
 mod input;
 
+use crate::answer::FileCycle;
 use crate::answer::cycle_line;
 use crate::answer::file_line;
 use crate::answer::put_outcome;
@@ -15,7 +16,6 @@ use crate::input::kept;
 use crate::input::read_file;
 use crate::input::read_word;
 use crate::input::sample_of;
-use rules::Cycle;
 use rules::Module;
 use rules::Outcome;
 use rules::Programmed;
@@ -80,23 +80,22 @@ fn power_call(r: Replay) -> Replay {
 }
 
 // A cycle that takes a file.
-fn acted(kind: Cycle, m: Module, file: &mut [u16]) -> Programmed {
+fn acted(kind: FileCycle, m: Module, file: &mut [u16]) -> Programmed {
     match kind {
-        Cycle::SetupCycle => setup::setup_cycle(m, file),
-        Cycle::GroupCycle => groups::group_cycle(m, file),
-        Cycle::LimitCycle => limits::limit_cycle(m, file),
-        Cycle::NudgeCycle => nudge::nudge_cycle(m, 0),
+        FileCycle::OfSetup => setup::setup_cycle(m, file),
+        FileCycle::OfGroups => groups::group_cycle(m, file),
+        FileCycle::OfLimits => limits::limit_cycle(m, file),
     }
 }
 
 // The cycle on a file, and its line.
-fn answered(kind: Cycle, m: Module, file: &mut [u16]) -> Module {
+fn answered(kind: FileCycle, m: Module, file: &mut [u16]) -> Module {
     let p = acted(kind, m, file);
     show(file_line(kind, p, &file[..]));
     p.card
 }
 
-fn file_call(r: Replay, kind: Cycle) -> Replay {
+fn file_call(r: Replay, kind: FileCycle) -> Replay {
     let mut file = [0u16; 651];
     let length = read_file(&mut file);
     let Input::Word(n) = length else {
@@ -123,7 +122,7 @@ fn nudge_call(r: Replay) -> Replay {
     }
     let card = r.card;
     let p = nudge::nudge_cycle(card, w);
-    show(cycle_line(Cycle::NudgeCycle, p));
+    show(cycle_line(b"nudge ", p));
     let after = p.card;
     let mut next = r;
     next.card = after;
@@ -212,9 +211,9 @@ fn frame_call(r: Replay, writes: bool) -> Replay {
 fn call(r: Replay, opcode: u16) -> Replay {
     match opcode {
         0 => power_call(r),
-        1 => file_call(r, Cycle::SetupCycle),
-        2 => file_call(r, Cycle::GroupCycle),
-        3 => file_call(r, Cycle::LimitCycle),
+        1 => file_call(r, FileCycle::OfSetup),
+        2 => file_call(r, FileCycle::OfGroups),
+        3 => file_call(r, FileCycle::OfLimits),
         4 => nudge_call(r),
         5 => step_call(r),
         6 => block_call(r),

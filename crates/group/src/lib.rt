@@ -2,7 +2,7 @@
 
 ghost use mathlib.Core.Path.{_≡_};
 ghost use mathlib.Core.Bool.{cond, not, _&&_, _||_};
-ghost use Prim.Native.Nat.{_+_, _%_};
+ghost use Prim.Native.Nat.{_+_};
 ghost use Rattle.rules.specs.Groups as groups;
 ghost use Rattle.rules.specs.Card as card;
 ghost use Rattle.group.specs.Step as steps;
@@ -27,40 +27,25 @@ pub struct GroupStep {
     pub position: GroupPosition,
 }
 
-// (a + b) mod SF. In range one comparison and one subtraction, else the remainder.
-fn sum(top: u16, a: u16, b: u16) -> u16
-    ensures { λ r. ⌜ r ≡ (a + b) % (top + 1) ⌝ }
-{
-    let sf = top as u32 + 1;
-    let s = a as u32 + b as u32;
-    if s < sf {
-        return s as u16;
-    }
-    if s - sf < sf {
-        return (s - sf) as u16;
-    }
-    (s % sf) as u16
-}
-
 // From Machine Position to Group Position, by the group's offset or by the shift.
 pub fn group_position(top: u16, by: u16, m: MachinePosition) -> GroupPosition
     ensures { λ r. ⌜ r ≡ groups.groupPosition (top + 1) by m ⌝ }
 {
-    GroupPosition(sum(top, m.0, by))
+    GroupPosition(counts::sum(top, m.0, by))
 }
 
 // The shift by which the position becomes the preset.
 pub fn preset_shift(top: u16, preset: u16, m: MachinePosition) -> u16
     ensures { λ r. ⌜ r ≡ groups.presetShift (top + 1) preset m ⌝ }
 {
-    switch::ahead(top, m.0, preset)
+    counts::ahead(top, m.0, preset)
 }
 
 // The dwell holds at a Group Position.
 pub fn dwell_holds(top: u16, d: Pair, p: GroupPosition) -> bool
     ensures { λ r. ⌜ r ≡ groups.dwellHolds (top + 1) d p ⌝ }
 {
-    switch::holds(top, d.on, d.off, p.0)
+    counts::holds(top, d.on, d.off, p.0)
 }
 
 // Modes 1 and 2: Machine Position plus a shift, which a taken edge presets.

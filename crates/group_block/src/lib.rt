@@ -188,7 +188,7 @@ pub fn group_bits(m: Model, top: u16, file: &[u16], n: u16) -> u16
     }
     let offset = top < group_word(file, n, 3);
     let program = program_bad(m, file, n);
-    let channel = switch::pair_bad(top, group_word(file, n, 1), group_word(file, n, 2));
+    let channel = counts::pair_bad(top, group_word(file, n, 1), group_word(file, n, 2));
     three_bits(offset, program, channel)
 }
 

@@ -162,7 +162,7 @@ fn some_pair_bad(top: u16, b: [u16; 19]) -> bool
 {
     let mut k: usize = 0;
     while k < 8 {
-        if switch::pair_bad(top, b[2 * k + 3], b[2 * k + 4]) {
+        if counts::pair_bad(top, b[2 * k + 3], b[2 * k + 4]) {
             return true;
         }
         k = k + 1;
@@ -177,7 +177,7 @@ fn setpoint_bad(top: u16, b: [u16; 19]) -> bool
     if b[0] % 4 == 0 {
         return some_pair_bad(top, b);
     }
-    switch::pair_bad(top, b[3], b[4])
+    counts::pair_bad(top, b[3], b[4])
 }
 
 // Bit 4 of a timed switch: the fifth of its kind, or its duration.
@@ -200,10 +200,10 @@ fn duration_bad(fifth: bool, used: bool, t: u16) -> bool
 fn length_bad(top: u16, fifth: bool, bit3: bool, b: [u16; 19]) -> bool
     ensures { λ r. ⌜ r ≡ lengthBit (top + 1) fifth bit3 b ⌝ }
 {
-    let used = switch::used_pair(b[3], b[4]);
+    let used = counts::used_pair(b[3], b[4]);
     if b[0] % 4 == 1 {
         if used {
-            return pulse_bad(bit3, switch::ahead(top, b[3], b[4]), b[5], b[6]);
+            return pulse_bad(bit3, counts::ahead(top, b[3], b[4]), b[5], b[6]);
         }
         return false;
     }
@@ -226,8 +226,8 @@ fn touch_bad(top: u16, bit3: bool, bit4: bool, b: [u16; 19]) -> bool
     if bit4 {
         return false;
     }
-    if switch::used_pair(b[3], b[4]) {
-        return pulses_touch(top, switch::ahead(top, b[3], b[4]), b[5], b[6]);
+    if counts::used_pair(b[3], b[4]) {
+        return pulses_touch(top, counts::ahead(top, b[3], b[4]), b[5], b[6]);
     }
     false
 }

@@ -79,7 +79,7 @@ fn fails(top: u16, s: Switch, on: u16, off: u16) -> bool
         Switch::Unprogrammed => false,
         Switch::Normal => false,
         Switch::Pulse(q, k) => {
-            let r = switch::ahead(top, on, off);
+            let r = counts::ahead(top, on, off);
             limit_block::pulse_bad(false, r, q, k) | limit_block::pulses_touch(top, r, q, k)
         }
         Switch::Timed(_) => false,
@@ -90,7 +90,7 @@ fn fails(top: u16, s: Switch, on: u16, off: u16) -> bool
 fn result_bad(top: u16, s: Switch, on: u16, off: u16) -> bool
     ensures { λ r. ⌜ r ≡ programming.resultBad (top + 1) s on off ⌝ }
 {
-    !switch::used_pair(on, off) | switch::pair_bad(top, on, off) | fails(top, s, on, off)
+    !counts::used_pair(on, off) | counts::pair_bad(top, on, off) | fails(top, s, on, off)
 }
 
 // Refusal 10, of the pair that the word names.
@@ -106,7 +106,7 @@ fn setpoint_bad(top: u16, l: Limit, w: u16) -> bool
     let first = word::bit(w, 8);
     let second = word::bit(w, 9);
     let down = word::bit(w, 10);
-    if switch::used_pair(on, off) {
+    if counts::used_pair(on, off) {
         if first & leaves_range(top, down, on) {
             return true;
         }

@@ -2,12 +2,10 @@
 
 ghost use mathlib.Core.Bool.{false};
 ghost use mathlib.Core.Path.{_≡_};
-ghost use Prim.Native.Nat.{_+_, _-_, _*_, _%_};
+ghost use Prim.Native.Nat.{_+_};
 ghost use lib.ListN.{getD};
 ghost use Rattle.rules.specs.Motion.{travelValue};
-ghost use Rattle.rules.specs.Groups as groups;
-ghost use Rattle.rules.specs.Switches.{advanceValue, moved, countAt, usedPair, pairHolds, normalHolds, pulseStart, pulseOn, pulseHolds, switchHolds};
-ghost use Rattle.rules.specs.Programming.{pairBad};
+ghost use Rattle.rules.specs.Switches.{advanceValue, moved, countAt, pairHolds, normalHolds, pulseStart, pulseOn, pulseHolds, switchHolds};
 ghost use Rattle.rules.specs.Card.{timedAfter};
 ghost use Rattle.switch.specs.Parts.{shiftCounts, pairAt, somePair, lastPulse, timedLeft};
 use rules::Advance;
@@ -16,44 +14,6 @@ use rules::Position;
 use rules::Switch;
 use rules::TimedState;
 use rules::Travel;
-
-// How far `to` is ahead of `from`: (to − from) mod SF. In range one comparison and one subtraction, else the remainder.
-pub fn ahead(top: u16, from: u16, to: u16) -> u16
-    ensures { λ r. ⌜ r ≡ groups.ahead (top + 1) from to ⌝ }
-{
-    if top < from {
-        return ahead_far(top, from, to);
-    }
-    if top < to {
-        return ahead_far(top, from, to);
-    }
-    if from <= to {
-        return to - from;
-    }
-    to + (top - from) + 1
-}
-
-// The same for counts out of range.
-fn ahead_far(top: u16, from: u16, to: u16) -> u16
-    ensures { λ r. ⌜ r ≡ groups.ahead (top + 1) from to ⌝ }
-{
-    let sf = top as u32 + 1;
-    ((to as u32 + (sf - from as u32 % sf)) % sf) as u16
-}
-
-// A pair (on, off) holds at p.
-pub fn holds(top: u16, on: u16, off: u16, p: u16) -> bool
-    ensures { λ r. ⌜ r ≡ groups.holds (top + 1) on off p ⌝ }
-{
-    ahead(top, on, p) < ahead(top, on, off)
-}
-
-// The same for counts out of range.
-fn holds_far(top: u16, on: u16, off: u16, p: u16) -> bool
-    ensures { λ r. ⌜ r ≡ groups.holds (top + 1) on off p ⌝ }
-{
-    ahead_far(top, on, p) < ahead_far(top, on, off)
-}
 
 // The magnitude of s, reduced mod SF: advance × c × SF / 245760. The whole product fits in 64 bits; below one turn nothing is left to reduce.
 fn shift_counts(top: u16, tenths: u16, counts: u32) -> u16
@@ -81,31 +41,7 @@ pub fn displacement(top: u16, a: Advance, c: Travel) -> u16
     if a.negative != c.negative {
         return s;
     }
-    ahead(top, s, 0)
-}
-
-// A setpoint moved by a displacement. In range one comparison and one subtraction, else the remainder.
-pub fn moved_by(top: u16, by: u16, setpoint: u16) -> u16
-    ensures { λ r. ⌜ r ≡ (setpoint + by) % (top + 1) ⌝ }
-{
-    if top < by {
-        return moved_far(top, by, setpoint);
-    }
-    if top < setpoint {
-        return moved_far(top, by, setpoint);
-    }
-    if setpoint <= top - by {
-        return setpoint + by;
-    }
-    setpoint - (top - by) - 1
-}
-
-// The same for counts out of range.
-fn moved_far(top: u16, by: u16, setpoint: u16) -> u16
-    ensures { λ r. ⌜ r ≡ (setpoint + by) % (top + 1) ⌝ }
-{
-    let sf = top as u32 + 1;
-    ((setpoint as u32 + by as u32) % sf) as u16
+    counts::ahead(top, s, 0)
 }
 
 // The count of the position that a switch reads.
@@ -116,32 +52,6 @@ fn count_at(p: Position) -> u16
         Position::OfMachine(m) => m.0,
         Position::OfGroup(g) => g.0,
     }
-}
-
-// 0/0 is unused.
-pub fn used_pair(on: u16, off: u16) -> bool
-    ensures { λ r. ⌜ r ≡ usedPair on off ⌝ }
-{
-    if on != 0 {
-        return true;
-    }
-    off != 0
-}
-
-// A setpoint out of range, or an equal pair that is not 0/0.
-pub fn pair_bad(top: u16, on: u16, off: u16) -> bool
-    ensures { λ r. ⌜ r ≡ pairBad (top + 1) on off ⌝ }
-{
-    if top < on {
-        return true;
-    }
-    if top < off {
-        return true;
-    }
-    if on == off {
-        return on != 0;
-    }
-    false
 }
 
 // A setpoint of a switch.
@@ -155,23 +65,23 @@ fn setpoint(setpoints: [u16; 16], i: usize) -> u16
 }
 
 // One pair at a position, its setpoints moved by their displacements. For how long it holds is decided here. That all its counts are in range is
-// tested once for the pair: on that way the tests within `moved_by` and `holds` are decided, and no division is left.
+// tested once for the pair: on that way the tests within `sum` and `holds` are decided, and no division is left.
 fn pair_at(top: u16, onmove: u16, offmove: u16, on: u16, off: u16, p: u16) -> bool
     ensures { λ r. ⌜ r ≡ pairAt (top + 1) onmove offmove on off p ⌝ }
 {
-    if used_pair(on, off) {
+    if counts::used_pair(on, off) {
         if (top < on) | (top < off) | (top < onmove) | (top < offmove) | (top < p) {
-            return holds_far(
+            return counts::holds_far(
                 top,
-                moved_far(top, onmove, on),
-                moved_far(top, offmove, off),
+                counts::sum_far(top, on, onmove),
+                counts::sum_far(top, off, offmove),
                 p,
             );
         }
-        return holds(
+        return counts::holds(
             top,
-            moved_by(top, onmove, on),
-            moved_by(top, offmove, off),
+            counts::sum(top, on, onmove),
+            counts::sum(top, off, offmove),
             p,
         );
     }
@@ -275,9 +185,14 @@ fn pulse_holds(top: u16, c: Travel, l: Limit, q: u16, k: u16, p: Position) -> bo
     let s = l.setpoints;
     let on = s[0];
     let off = s[1];
-    if used_pair(on, off) {
-        let start = moved_by(top, displacement(top, l.onadvance, c), on);
-        return pulse_on(ahead(top, on, off), q, k, ahead(top, start, count_at(p)));
+    if counts::used_pair(on, off) {
+        let start = counts::sum(top, on, displacement(top, l.onadvance, c));
+        return pulse_on(
+            counts::ahead(top, on, off),
+            q,
+            k,
+            counts::ahead(top, start, count_at(p)),
+        );
     }
     false
 }

@@ -8,11 +8,11 @@ use Rattle.switch.proofs.pair_at.Tie as tie
 used-pair-requires : tie.Need-used-pair-requires
 used-pair-requires c κs = search needs
 
-moved-far-requires : tie.Need-moved-far-requires
-moved-far-requires c κs = search needs
+sum-far-requires : tie.Need-sum-far-requires
+sum-far-requires c κs = search needs
 
-moved-far-requires-2 : tie.Need-moved-far-requires-2
-moved-far-requires-2 c κs = search needs
+sum-far-requires-2 : tie.Need-sum-far-requires-2
+sum-far-requires-2 c κs = search needs
 
 holds-far-requires : tie.Need-holds-far-requires
 holds-far-requires c κs = search needs
@@ -20,13 +20,13 @@ holds-far-requires c κs = search needs
 returns : tie.Need-returns
 unfolding pairAt
 returns c =
-    rw (sym (c .before .before .before .before .before .used-pair .ensures) ∙ c .before .before .before .before .if1 .taken, c .holds-far .ensures, c .before .moved-far2 .ensures, c .before .before .moved-far .ensures)
+    rw (sym (c .before .before .before .before .before .used-pair .ensures) ∙ c .before .before .before .before .if1 .taken, c .holds-far .ensures, c .before .sum-far2 .ensures, c .before .before .sum-far .ensures)
 
-moved-by-requires : tie.Need-moved-by-requires
-moved-by-requires c κs = search needs
+sum-requires : tie.Need-sum-requires
+sum-requires c κs = search needs
 
-moved-by-requires-2 : tie.Need-moved-by-requires-2
-moved-by-requires-2 c κs = search needs
+sum-requires-2 : tie.Need-sum-requires-2
+sum-requires-2 c κs = search needs
 
 holds-requires : tie.Need-holds-requires
 holds-requires c κs = search needs
@@ -34,7 +34,7 @@ holds-requires c κs = search needs
 returns-2 : tie.Need-returns-2
 unfolding pairAt
 returns-2 c =
-    rw (sym (c .before .before .before .before .before .used-pair .ensures) ∙ c .before .before .before .before .if1 .taken, c .holds .ensures, c .before .moved-by2 .ensures, c .before .before .moved-by .ensures)
+    rw (sym (c .before .before .before .before .before .used-pair .ensures) ∙ c .before .before .before .before .if1 .taken, c .holds .ensures, c .before .sum2 .ensures, c .before .before .sum .ensures)
 
 returns-3 : tie.Need-returns-3
 unfolding pairAt
@@ -45,12 +45,12 @@ pair-at-spec =
     tie.close
     (tie.spec
     used-pair-requires
-    moved-far-requires
-    moved-far-requires-2
+    sum-far-requires
+    sum-far-requires-2
     holds-far-requires
     returns
-    moved-by-requires
-    moved-by-requires-2
+    sum-requires
+    sum-requires-2
     holds-requires
     returns-2
     returns-3)

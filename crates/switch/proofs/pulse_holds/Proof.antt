@@ -19,8 +19,8 @@ used-pair-requires c κs = search needs
 displacement-requires : tie.Need-displacement-requires
 displacement-requires c κs = search needs
 
-moved-by-requires : tie.Need-moved-by-requires
-moved-by-requires c κs = search needs
+sum-requires : tie.Need-sum-requires
+sum-requires c κs = search needs
 
 ahead-requires : tie.Need-ahead-requires
 ahead-requires c κs = search needs
@@ -38,7 +38,7 @@ returns : tie.Need-returns
 unfolding pulseHolds
 returns c =
     let x = c .before .before .before .before .before .before .before .before .before .args in
-    rw (moved-by (x .top) (advanceValue (x .l .onadvance)) (travelValue (x .c)) (onSetpoint (x .l) 0), sym (c .before .before .before .before .before .before .before .used-pair .ensures) ∙ c .before .before .before .before .before .before .if1 .taken, c .pulse-on .ensures, c .before .ahead2 .ensures, c .before .before .count-at .ensures, c .before .before .before .ahead .ensures, c .before .before .before .before .moved-by .ensures, c .before .before .before .before .before .displacement .ensures)
+    rw (moved-by (x .top) (advanceValue (x .l .onadvance)) (travelValue (x .c)) (onSetpoint (x .l) 0), sym (c .before .before .before .before .before .before .before .used-pair .ensures) ∙ c .before .before .before .before .before .before .if1 .taken, c .pulse-on .ensures, c .before .ahead2 .ensures, c .before .before .count-at .ensures, c .before .before .before .ahead .ensures, c .before .before .before .before .sum .ensures, c .before .before .before .before .before .displacement .ensures)
 
 returns-2 : tie.Need-returns-2
 unfolding pulseHolds
@@ -52,7 +52,7 @@ pulse-holds-spec =
     array-read-off
     used-pair-requires
     displacement-requires
-    moved-by-requires
+    sum-requires
     ahead-requires
     count-at-requires
     ahead-requires-2

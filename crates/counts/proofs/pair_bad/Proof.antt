@@ -1,10 +1,10 @@
--- `switch::pair_bad` meets its contract: by the three tests. Assumes nothing.
+-- `counts::pair_bad` meets its contract: by the three tests. Assumes nothing.
 use Prim.Native.Nat.{_+_}
 use native.Mathlib.Omega.{arith}
 use borrow.Author.Tests.{le-leb, lt-leb, eq-eqb, ne-eqb}
 use Rattle.rules.specs.Programming.{pairBad}
-use Rattle.switch.proofs.pair_bad.Statement.{statement}
-use Rattle.switch.proofs.pair_bad.Tie as tie
+use Rattle.counts.proofs.pair_bad.Statement.{statement}
+use Rattle.counts.proofs.pair_bad.Tie as tie
 
 returns : tie.Need-returns
 unfolding pairBad

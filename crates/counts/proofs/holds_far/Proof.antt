@@ -1,8 +1,8 @@
--- `switch::holds_far` meets its contract: the two differences compared. Assumes nothing.
+-- `counts::holds_far` meets its contract: the two differences compared. Assumes nothing.
 use Rattle.rules.specs.Groups.{holds}
 use borrow.Author.Needs.{needs}
-use Rattle.switch.proofs.holds_far.Statement.{statement}
-use Rattle.switch.proofs.holds_far.Tie as tie
+use Rattle.counts.proofs.holds_far.Statement.{statement}
+use Rattle.counts.proofs.holds_far.Tie as tie
 
 ahead-far-requires : tie.Need-ahead-far-requires
 ahead-far-requires c κs = search needs

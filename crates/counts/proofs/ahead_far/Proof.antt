@@ -1,11 +1,11 @@
--- `switch::ahead_far` meets its contract: the remainder of a sum of naturals. Assumes nothing.
+-- `counts::ahead_far` meets its contract: the remainder of a sum of naturals. Assumes nothing.
 use Rattle.rules.proofs.Laws.{mod-below, ahead-natural}
 use native.Mathlib.Omega.{arith}
 use mathlib.Core.Path.{sym}
 use Prim.Native.Nat.{_+_, _-_, _%_}
 use borrow.Author.Needs.{needs}
-use Rattle.switch.proofs.ahead_far.Statement.{statement}
-use Rattle.switch.proofs.ahead_far.Tie as tie
+use Rattle.counts.proofs.ahead_far.Statement.{statement}
+use Rattle.counts.proofs.ahead_far.Tie as tie
 
 add-sf : tie.Need-add-sf
 add-sf c = search needs

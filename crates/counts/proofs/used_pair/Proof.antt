@@ -1,7 +1,7 @@
--- `switch::used_pair` meets its contract: the two tests. Assumes nothing.
+-- `counts::used_pair` meets its contract: the two tests. Assumes nothing.
 use borrow.Author.Tests.{eq-eqb, ne-eqb}
-use Rattle.switch.proofs.used_pair.Statement.{statement}
-use Rattle.switch.proofs.used_pair.Tie as tie
+use Rattle.counts.proofs.used_pair.Statement.{statement}
+use Rattle.counts.proofs.used_pair.Tie as tie
 
 returns : tie.Need-returns
 returns c = simp (ne-eqb _ _ (c .if1 .taken))

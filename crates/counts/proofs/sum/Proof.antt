@@ -1,20 +1,20 @@
--- `switch::moved_by` meets its contract: in range by one comparison, else by the remainder. Assumes nothing.
+-- `counts::sum` meets its contract: in range by one comparison, else by the remainder. Assumes nothing.
 use native.Mathlib.Omega.{arith}
 use native.Mathlib.Nat.{mod-eq-of-lt, add-mod-right}
 use mathlib.Core.Path.{_≡_, sym, _∙_}
 use Prim.Native.Nat.{_+_, _-_}
 use borrow.Author.Needs.{needs}
-use Rattle.switch.proofs.moved_by.Statement.{statement}
-use Rattle.switch.proofs.moved_by.Tie as tie
+use Rattle.counts.proofs.sum.Statement.{statement}
+use Rattle.counts.proofs.sum.Tie as tie
 
-moved-far-requires : tie.Need-moved-far-requires
-moved-far-requires c κs = search needs
+sum-far-requires : tie.Need-sum-far-requires
+sum-far-requires c κs = search needs
 
 returns : tie.Need-returns
 returns c = search needs
 
-moved-far-requires-2 : tie.Need-moved-far-requires-2
-moved-far-requires-2 c κs = search needs
+sum-far-requires-2 : tie.Need-sum-far-requires-2
+sum-far-requires-2 c κs = search needs
 
 returns-2 : tie.Need-returns-2
 returns-2 c = search needs
@@ -34,17 +34,17 @@ sub-result-2 c = search needs
 returns-4 : tie.Need-returns-4
 returns-4 c =
     let x = c .before .before .before .args in
-    let r = x .setpoint - (x .top - x .by) - 1 in
-    let e : x .setpoint + x .by ≡ r + (x .top + 1) = omega arith in
+    let r = x .a - (x .top - x .b) - 1 in
+    let e : x .a + x .b ≡ r + (x .top + 1) = omega arith in
     rw e (sym (add-mod-right r (x .top + 1) ∙ mod-eq-of-lt (omega arith)))
 
-pub moved-by-spec : {M : Type 1} → statement M
-moved-by-spec =
+pub sum-spec : {M : Type 1} → statement M
+sum-spec =
     tie.close
     (tie.spec
-    moved-far-requires
+    sum-far-requires
     returns
-    moved-far-requires-2
+    sum-far-requires-2
     returns-2
     add-result
     returns-3

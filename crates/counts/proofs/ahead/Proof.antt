@@ -1,11 +1,11 @@
--- `switch::ahead` meets its contract: in range by one comparison, else by the remainder. Assumes nothing.
+-- `counts::ahead` meets its contract: in range by one comparison, else by the remainder. Assumes nothing.
 use Rattle.rules.proofs.Laws.{ahead-up, ahead-round}
 use native.Mathlib.Omega.{arith}
 use Prim.Native.Nat.{_+_, _-_}
 use mathlib.Core.Path.{_≡_, sym, _∙_}
 use borrow.Author.Needs.{needs}
-use Rattle.switch.proofs.ahead.Statement.{statement}
-use Rattle.switch.proofs.ahead.Tie as tie
+use Rattle.counts.proofs.ahead.Statement.{statement}
+use Rattle.counts.proofs.ahead.Tie as tie
 
 ahead-far-requires : tie.Need-ahead-far-requires
 ahead-far-requires c κs = search needs

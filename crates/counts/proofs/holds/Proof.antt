@@ -1,8 +1,8 @@
--- `switch::holds` meets its contract: the two differences compared. Assumes nothing.
+-- `counts::holds` meets its contract: the two differences compared. Assumes nothing.
 use Rattle.rules.specs.Groups.{holds}
 use borrow.Author.Needs.{needs}
-use Rattle.switch.proofs.holds.Statement.{statement}
-use Rattle.switch.proofs.holds.Tie as tie
+use Rattle.counts.proofs.holds.Statement.{statement}
+use Rattle.counts.proofs.holds.Tie as tie
 
 ahead-requires : tie.Need-ahead-requires
 ahead-requires c κs = search needs

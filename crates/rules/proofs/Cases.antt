@@ -3,17 +3,19 @@
 use Prim.Native.Nat.{ℕ, zero, suc, _<_}
 use mathlib.Core.Bool.{Bool, true, false, _&&_, not, _||_}
 use mathlib.Core.List.{List, [], _∷_}
-use mathlib.Core.Path.{_≡_, refl, ap}
+use mathlib.Core.Path.{_≡_, refl}
 use native.Mathlib.Omega.{arith}
 use lib.ListN.{length, getD}
 use lib.Dec.{T, eqb, eqb→eq}
 use lib.IntN.{pos}
 use Rattle.rules.specs.declared.Position.the-variants.{OfMachine}
-use Rattle.rules.specs.Words.{bit, packed, someOf, modulo, roundHalfUp}
-use Rattle.rules.specs.Motion.{windowTime, rpmOf, tachValue, tachReading, isStop}
-use Rattle.rules.specs.Groups.{ahead, holds, dwellHolds, groupPosition, presetShift, presets, stops, running, isOpen}
+use Rattle.rules.specs.Variants.{codeOf, modeOf}
+use Rattle.rules.specs.Words.{someOf, modulo, roundHalfUp}
+use Rattle.rules.specs.Motion.{windowTime, rpmOf, tachValue, tachShown, isStop}
+use Rattle.rules.specs.Counts.{ahead, holds}
+use Rattle.rules.specs.Groups.{dwellHolds, groupPosition, presetShift, presets, stops, running, isOpen}
 use Rattle.rules.specs.Switches.{advanceShift, moved, pulseStart, pulseOn, pulseHolds}
-use Rattle.rules.specs.Programming.{pulseBad, pulsesTouch}
+use Rattle.rules.specs.LimitWords.{pulseBad, pulsesTouch}
 use Rattle.rules.specs.Card.{positionBy, beginsNow, takesNow, shiftNow, positionNow, heldNow, qualifiedNow, openedNow, groupAfter, freshGroup}
 use Rattle.rules.specs.Cases.{Case, tach, speed, advance, pulses, fits, pair, group, cases, pulseSwitch, positionsWith, mode4Group, stepEvent, openings, Says}
 
@@ -56,7 +58,7 @@ module _ {A : Type 0} (same : A → A → Bool) (same→ : (a b : A) → T (same
 -- ---- The test of a line, and what follows from it
 
 right : Case → Bool
-right (tach rpm multiplier divider code says) = eqb (tachReading (record { multiplier = multiplier; divider = divider; code = code }) rpm) says
+right (tach rpm multiplier divider code says) = eqb (tachShown (record { multiplier = multiplier; divider = divider; code = code }) rpm) says
 right (speed fast c says) = eqb (rpmOf fast c) says
 right (advance a c setpoint says) = eqb (moved 1024 a c setpoint) says
 right (pulses on off q k says) =
@@ -85,9 +87,14 @@ each-says d [] t n h = absurd (omega arith)
 each-says d (c ∷ cs) t zero h = right→says c (both-left (right c) (allRight cs) t)
 each-says d (c ∷ cs) t (suc n) h = each-says d cs (both-right (right c) (allRight cs) t) n (omega arith)
 
+-- what a group's step opens
+group-step : Unit {0}
+unfolding groupAfter openedNow qualifiedNow heldNow positionNow shiftNow takesNow beginsNow positionBy dwellHolds groupPosition presetShift presets stops isStop running isOpen codeOf modeOf
+group-step = tt
+
 -- the whole table, computed
 all-right : T (allRight cases)
-unfolding allRight right sameList sameBool cases pulseSwitch positionsWith mode4Group stepEvent openings tachReading tachValue rpmOf windowTime roundHalfUp moved advanceShift modulo pulseHolds pulseOn pulseStart someOf ahead holds pulseBad pulsesTouch groupAfter openedNow qualifiedNow heldNow positionNow shiftNow takesNow beginsNow positionBy dwellHolds groupPosition presetShift presets stops isStop running isOpen
+unfolding allRight right sameList sameBool cases pulseSwitch positionsWith mode4Group stepEvent openings tachShown tachValue rpmOf windowTime roundHalfUp moved advanceShift modulo pulseHolds pulseOn pulseStart someOf ahead holds pulseBad pulsesTouch group-step
 all-right = tt
 
 -- THE CASES: each of 01's lettered lines holds of the definitions

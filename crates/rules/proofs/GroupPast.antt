@@ -11,12 +11,14 @@ use lib.Dec.{eqb}
 use borrow.Author.Tests.{not-true}
 use Rattle.rules.specs.declared.MachinePosition.{MachinePosition}
 use Rattle.rules.specs.declared.Mode.{Mode}
-use Rattle.rules.specs.declared.Mode.the-variants.{Mode0, Mode1, Mode2, Mode3, Mode4, Mode5}
+use Rattle.rules.specs.declared.Mode.the-variants.{NoMode, Mode0, Mode1, Mode2, Mode3, Mode4, Mode5}
 use Rattle.rules.specs.declared.Group.{Group}
 use Rattle.rules.specs.declared.GroupState.{GroupState}
 use Rattle.rules.specs.declared.Event.{Event}
 use Rattle.rules.specs.Motion.{isStop}
-use Rattle.rules.specs.Groups.{ahead, groupPosition, presetShift, presets, edge, stops, running, isOpen}
+use Rattle.rules.specs.Variants.{groupMode}
+use Rattle.rules.specs.Counts.{ahead}
+use Rattle.rules.specs.Groups.{groupPosition, presetShift, presets, edge, stops, running, isOpen}
 use Rattle.rules.specs.Card.{positionBy, beginsNow, takesNow, shiftNow, positionNow, heldNow, qualifiedNow, openedNow, groupAfter, freshGroup}
 use Rattle.rules.specs.Quant.{exists, afterEach, noLater, latestSaw}
 use Rattle.rules.specs.History.{GroupStep, PastStep, beginsAt, takesAt, levelAt, firstAt, edgeAt, firstEdgeAt, stopAt, runningAt, lastTaken, presetPosition, positionFrom, positionAt, dwellAt, begins, takes, latestDwellSaw, qualifiesAt, countsAt, openAt}
@@ -43,7 +45,7 @@ preset-travel t m from preset = rw (ahead-natural t from preset, ahead-natural t
 position : (t : ℕ) (g : Group) (o : Option PastStep) (m : MachinePosition) → m .0 < t + 1
     → positionBy (t + 1) g (shiftOf (t + 1) o) m ≡ positionFrom (t + 1) g o m
 unfolding positionBy positionFrom
-position t g o m b = go (presets (g .mode)) o
+position t g o m b = go (presets (groupMode g)) o
   where
     go : (q : Bool) (o : Option PastStep)
         → groupPosition (t + 1) (cond q (shiftOf (t + 1) o) (g .offset)) m ≡ cond q (presetPosition (t + 1) o m) (groupPosition (t + 1) (g .offset) m)
@@ -96,7 +98,7 @@ no-stop h e t =
     not-true (eqb (e .rpm) 0) (both (e .level) (not (eqb (e .rpm) 0)) (both h (e .level && not (eqb (e .rpm) 0)) t .1) .1) in
     rw (r, and-false)
 
-module _ (t : ℕ) (g : Group) (x : GroupState) (e : Event) (h : List PastStep) (k : GroupLink (t + 1) (g .mode) x h) (b : e .machine .0 < t + 1) where
+module _ (t : ℕ) (g : Group) (x : GroupState) (e : Event) (h : List PastStep) (k : GroupLink (t + 1) (groupMode g) x h) (b : e .machine .0 < t + 1) where
   abbrev pub S : GroupStep
   S = record { sf = t + 1; program = g; event = e }
 
@@ -148,11 +150,11 @@ module _ (t : ℕ) (g : Group) (x : GroupState) (e : Event) (h : List PastStep) 
 
   -- ---- Modes 4 and 5: no edge is taken, and a dwell begins where its pair begins to hold
 
-  lawful-is : presets (g .mode) ≡ false → Lawful beginsAt dwellAt N
+  lawful-is : presets (groupMode g) ≡ false → Lawful beginsAt dwellAt N
   lawful-is q = all-of (unfold beginsAt begins dwellAt positionAt positionFrom in rw q) (k .lawful q)
 
   -- the latest dwell goes on as the state does
-  saw-is : (X : List PastStep → Bool) → presets (g .mode) ≡ false → latestDwellSaw X N ≡ ((dwellAt N && X N) || (not (beginsAt N) && latestDwellSaw X h))
+  saw-is : (X : List PastStep → Bool) → presets (groupMode g) ≡ false → latestDwellSaw X N ≡ ((dwellAt N && X N) || (not (beginsAt N) && latestDwellSaw X h))
   unfolding latestDwellSaw
   saw-is X q =
       saw-step beginsAt dwellAt X (unfold dwellAt in refl) P h (lawful-is q)
@@ -162,7 +164,7 @@ module _ (t : ℕ) (g : Group) (x : GroupState) (e : Event) (h : List PastStep) 
   unfolding qualifiesAt runningAt
   qualifies-is = and-self-left (dwellAt N) (running e)
 
-  qualified-is : presets (g .mode) ≡ false → qualifiedNow (t + 1) g x e ≡ latestDwellSaw qualifiesAt N
+  qualified-is : presets (groupMode g) ≡ false → qualifiedNow (t + 1) g x e ≡ latestDwellSaw qualifiesAt N
   unfolding qualifiedNow
   qualified-is q = rw (held-is, b-is, k .qualified q) (sym (saw-is qualifiesAt q ∙ rw qualifies-is))
 
@@ -170,22 +172,23 @@ module _ (t : ℕ) (g : Group) (x : GroupState) (e : Event) (h : List PastStep) 
   unfolding openedNow openAt
   open-two o = rw (t-is, b-is, o) (sym (later-step takesAt beginsAt P h))
 
-  open-four : presets (g .mode) ≡ false → x .opened ≡ openAt Mode4 h → openedNow Mode4 (t + 1) g x e ≡ openAt Mode4 N
+  open-four : presets (groupMode g) ≡ false → x .opened ≡ openAt Mode4 h → openedNow Mode4 (t + 1) g x e ≡ openAt Mode4 N
   unfolding openedNow openAt edgeAt
   open-four q o = rw (held-is, b-is, k .level, o) (sym (saw-is edgeAt q))
 
-  open-five : presets (g .mode) ≡ false → x .opened ≡ openAt Mode5 h → openedNow Mode5 (t + 1) g x e ≡ openAt Mode5 N
+  open-five : presets (groupMode g) ≡ false → x .opened ≡ openAt Mode5 h → openedNow Mode5 (t + 1) g x e ≡ openAt Mode5 N
   unfolding openedNow openAt qualifiesAt countsAt runningAt stopAt firstEdgeAt
   open-five q o =
       rw (held-is, b-is, qualified-is q, k .first, o, later-step (λ j. qualifiesAt j || countsAt j) stopAt P h, saw-is qualifiesAt q, qualifies-is)
       (mode5-step (dwellAt N && running e) (beginsAt N) (stops e) (edge (firstAt h) (e .first)) (latestDwellSaw qualifiesAt h)
       (noLater (λ j. qualifiesAt j || countsAt j) stopAt h) (no-stop (dwellAt N) e))
 
-  pub open-is : isOpen (g .mode) (e .level) (openedNow (g .mode) (t + 1) g x e) ≡ openAt (g .mode) N
+  pub open-is : isOpen (groupMode g) (e .level) (openedNow (groupMode g) (t + 1) g x e) ≡ openAt (groupMode g) N
   unfolding isOpen
-  open-is = go (g .mode) refl (k .isopen)
+  open-is = go (groupMode g) refl (k .isopen)
     where
-      go : (m : Mode) → g .mode ≡ m → isOpen m (levelAt h) (x .opened) ≡ openAt m h → isOpen m (e .level) (openedNow m (t + 1) g x e) ≡ openAt m N
+      go : (m : Mode) → groupMode g ≡ m → isOpen m (levelAt h) (x .opened) ≡ openAt m h → isOpen m (e .level) (openedNow m (t + 1) g x e) ≡ openAt m N
+      go NoMode q o = unfold openAt in refl
       go Mode0 q o = unfold openAt in refl
       go Mode1 q o = unfold openAt in refl
       go Mode2 q o = open-two o
@@ -193,7 +196,7 @@ module _ (t : ℕ) (g : Group) (x : GroupState) (e : Event) (h : List PastStep) 
       go Mode4 q o = open-four (unfold presets in ap presets q) o
       go Mode5 q o = open-five (unfold presets in ap presets q) o
 
-  pub group-step : GroupLink (t + 1) (g .mode) (groupAfter (t + 1) g x e) N
+  pub group-step : GroupLink (t + 1) (groupMode g) (groupAfter (t + 1) g x e) N
   unfolding groupAfter levelAt firstAt
   group-step = record {
     level = refl;
@@ -222,6 +225,7 @@ group-fresh sf mode = record {
 }
   where
     go : (m : Mode) → isOpen m false false ≡ openAt m []
+    go NoMode = unfold isOpen openAt in refl
     go Mode0 = unfold isOpen openAt in refl
     go Mode1 = unfold isOpen openAt in refl
     go Mode2 = unfold isOpen openAt noLater in refl

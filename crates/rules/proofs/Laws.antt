@@ -1,17 +1,17 @@
 -- Laws that more than one proof cites: the difference modulo SF as sums and remainders of naturals, the position a preset gives, the length of a file.
 -- Assumes nothing.
 use Prim.Native.Nat.{ℕ, zero, suc, _+_, _-_, _*_, _/_, _%_, _≤_, _<_}
-use mathlib.Core.Bool.{Bool, true, false, cond}
+use mathlib.Core.Bool.{Bool, true, false}
 use mathlib.Core.Path.{_≡_, refl, sym, ap, _∙_}
 use mathlib.Core.List.{List, [], _∷_}
-use native.Mathlib.Nat.{mod-lt, mod-eq-of-lt, mod-mod, add-mod-mod, mod-add-mod, add-mod-right, add-mul-mod-self-right, div-add-mod'}
+use native.Mathlib.Nat.{mod-lt, mod-eq-of-lt, add-mod-right, add-mul-mod-self-right, div-add-mod'}
 use native.Mathlib.Omega.{arith}
 use borrow.Author.Tests.{ltb-true, ltb-false, le-ltb}
 use lib.ListN.{length, set, length-set}
-use lib.Dec.{ltb, leb}
+use lib.Dec.{ltb}
 use lib.IntN.{ℤ, pos, negsuc, subℕ, _-ℤ_}
 use Rattle.rules.specs.Words.{modulo, storedAt}
-use Rattle.rules.specs.Groups.{ahead}
+use Rattle.rules.specs.Counts.{ahead}
 
 -- a number that is not 0
 pub positive : (n : ℕ) → (n ≡ 0 → ⊥) → 0 < n
@@ -75,17 +75,6 @@ pub ahead-round : (t from to : ℕ) → to < from → from ≤ t → ahead (t + 
 ahead-round t from to h k =
     ahead-natural t from to
     ∙ (let e : from % (t + 1) ≡ from = mod-eq-of-lt (omega arith) in rw e (mod-eq-of-lt (omega arith)))
-
--- `ahead` is what takes the one to the other
-pub ahead-takes : (t from to : ℕ) → (from + ahead (t + 1) from to) % (t + 1) ≡ to % (t + 1)
-ahead-takes t from to =
-    let n : from % (t + 1) < t + 1 = mod-below from t in
-    let e : from + (to + (t + 1 - from % (t + 1))) ≡ to + 1 * (t + 1) + from / (t + 1) * (t + 1) = omega (arith, div-add-mod' from (t + 1)) in
-    rw (ahead-natural t from to)
-    (add-mod-mod from (to + (t + 1 - from % (t + 1))) (t + 1)
-    ∙ ap (λ (x : ℕ). x % (t + 1)) e
-    ∙ add-mul-mod-self-right (to + 1 * (t + 1)) (from / (t + 1)) (t + 1)
-    ∙ add-mul-mod-self-right to 1 (t + 1))
 
 -- words stored into a file leave it as long as it was
 pub length-stored : (at : ℕ) (ws file : List ℕ) → length (storedAt at ws file) ≡ length file

@@ -46,6 +46,11 @@ module _ {A : Type 0} where
   length-table zero i f = refl
   length-table (suc n) i f = ap suc (length-table n (i + 1) f)
 
+  pub table-same : (n i : ℕ) (f g : ℕ → A) → ((k : ℕ) → i ≤ k → k < i + n → f k ≡ g k) → table n i f ≡ table n i g
+  unfolding table
+  table-same zero i f g h = refl
+  table-same (suc n) i f g h = rw (h i (omega arith) (omega arith), table-same n (i + 1) f g (λ k a b. h k (omega arith) (omega arith)))
+
   -- entry k of a table
   pub getD-table : (n i : ℕ) (f : ℕ → A) (d : A) (k : ℕ) → k < n → getD (table n i f) k d ≡ f (i + k)
   unfolding table

@@ -14,12 +14,21 @@ use Rattle.rules.specs.declared.Setup.{Setup}
 use Rattle.rules.specs.declared.Group.{Group}
 use Rattle.rules.specs.declared.Limit.{Limit}
 use Rattle.rules.specs.declared.Programming.{Programming}
+use Rattle.rules.specs.declared.Configuration.{Configuration}
+use Rattle.rules.specs.declared.FileCycle.{FileCycle}
+use Rattle.rules.specs.declared.FileCycle.the-variants.{SetupCycle, GroupCycle, LimitCycle}
 use Rattle.rules.specs.Words.{word, bit, digit, bits, someOf, lowestOf, table}
+use Rattle.rules.specs.Variants.{modelIn, limitSwitch}
+use Rattle.rules.specs.Counts.{usedPair, pairBad}
 use Rattle.rules.specs.Motion.{scaleFactor, scaledPosition, turned}
 use Rattle.rules.specs.Groups.{noGroup, groupAt}
-use Rattle.rules.specs.Switches.{onSetpoint, offSetpoint, usedPair, noLimit, pastLimits, limitOf, ownerOf, present}
-use Rattle.rules.specs.Programming.{noPrograms, defaultSetup, setupErrors, sfBad, sfJudged, detectorBad, scalarsBad, presetOffset, setupOf, withSetup, groupWord, groupOf, pairBad, groupProgramBad, groupBits, groupReserved, failingGroup, groupErrors, withGroups, limitWord, controlDetector, controlType, allZero, setpointOf, limitFrom, controlBad, advanceBad, limitPairBad, setpointBad, fifthTimed, lengthBad, touchBad, blockBits, limitBits, limitReserved, failingLimit, limitErrors, withLimits, nudgeOutput, nudgePair, nudgeOutputBad, nudgedIf, resultBad, leavesRange, nudgeFails, nudgeSetpointBad, nudgedLimit, nudgedProgramming}
-use Rattle.rules.specs.Calls.{Call}
+use Rattle.rules.specs.Switches.{onSetpoint, offSetpoint, noLimit, pastLimits, limitOf}
+use Rattle.rules.specs.SetupWords.{directionBit, presetBit, noPrograms, setupErrors, sfBad, sfJudged, detectorBad, scalarsBad, presetOffset, setupOf, withSetup, reservedStatus}
+use Rattle.rules.specs.GroupWords.{usedBit, groupWord, groupOf, groupProgramBad, groupBits, groupReserved, failingGroup, groupErrors, withGroups}
+use Rattle.rules.specs.LimitWords.{controlDetector, controlType, blockType, limitBlock, setpointOf, limitOfBlock, unread, unassigned, limitFrom, controlBad, advanceBad, blockPairBad, setpointBad, fifthTimed, lengthBit, touchBit, blockBits, limitBits, limitReserved, failingLimit, limitErrors, withLimits}
+use Rattle.rules.specs.FileCycle.{fileErrors, brought}
+use Rattle.rules.specs.Nudge.{onBit, offBit, downBit, nudgeOutput, nudgePair, nudgeOutputBad, nudgedIf, resultBad, leavesRange, nudgeFails, nudgeSetpointBad, nudgedLimit, nudgedProgramming}
+use Rattle.rules.specs.Calls.{Call, defaultSetup}
 use Rattle.rules.specs.History.{programmingOf}
 use Rattle.rules.proofs.Laws.{modulo-below}
 use Rattle.rules.proofs.Past.{both, by}
@@ -64,7 +73,7 @@ lowest-has (suc n) i f e =
 
 -- a file with no failing block: each block's bits are 0
 none-failing : (n : ℕ) (f : ℕ → ℕ) (reserved : Bool)
-    → cond reserved 0x8000
+    → cond reserved reservedStatus
     (cond (eqb (cond reserved 0 (lowestOf n 1 (λ k. not (eqb (f k) 0)))) 0) 0 (f (cond reserved 0 (lowestOf n 1 (λ k. not (eqb (f k) 0)))))) ≡ 0
     → (k : ℕ) → 1 ≤ k → k ≤ n → f k ≡ 0
 none-failing n f true e k a b = absurd (omega arith)
@@ -177,13 +186,13 @@ setup-range file raw e =
     let h = w .most in
     let f = w .preset in
     let o = w .offset in
-    no-programs (setupOf file raw) (omega arith) (omega arith) (omega arith) (go s o (bit (word file 0) 1))
+    no-programs (setupOf file raw) (omega arith) (omega arith) (omega arith) (go s o (bit (word file 0) presetBit))
   where
     go : word file 1 - 1 + 1 ≡ word file 1 → word file 3 < word file 1 → (q : Bool)
-        → cond q (presetOffset (word file 1) (bit (word file 0) 4) (word file 2) raw) (word file 3) < word file 1 - 1 + 1
+        → cond q (presetOffset (word file 1) (bit (word file 0) directionBit) (word file 2) raw) (word file 3) < word file 1 - 1 + 1
     go s o true =
         rw s
-        (rw s at (modulo-below (subℕ (word file 2) (scaledPosition (word file 1) (turned (bit (word file 0) 4) raw))) (word file 1 - 1)))
+        (rw s at (modulo-below (subℕ (word file 2) (scaledPosition (word file 1) (turned (bit (word file 0) directionBit) raw))) (word file 1 - 1)))
     go s o false = rw s o
 
 keep-setup : (p : Programming) (file : List ℕ) (raw : ℕ) → eqb (setupErrors file) 0 ≡ true → Within p → Within (withSetup p (setupOf file raw))
@@ -201,110 +210,107 @@ keep-setup p file raw e k =
     })
 
 -- a group block that passes
-block-group : (m : Model) (sf : ℕ) (file : List ℕ) (n : ℕ) → 0 < sf → groupBits m sf file n ≡ 0 → GroupWithin sf (groupOf file n)
+block-group : (model : Model) (sf : ℕ) (file : List ℕ) (n : ℕ) → 0 < sf → groupBits model sf file n ≡ 0 → GroupWithin sf (groupOf file n)
 unfolding groupBits groupOf
-block-group m sf file n s e =
-    by (bit (groupWord file n 0) 15)
+block-group model sf file n s e =
+    by (bit (groupWord file n 0) usedBit)
     (λ t. let pair : Bool = pairBad sf (groupWord file n 1) (groupWord file n 2) in
-    let a = no-bits (leb sf (groupWord file n 3)) (groupProgramBad m file n ∷ pair ∷ []) (rw t at e) in
-    let b = no-bits (groupProgramBad m file n) (pair ∷ []) (a .1) in
+    let a = no-bits (leb sf (groupWord file n 3)) (groupProgramBad model file n ∷ pair ∷ []) (rw t at e) in
+    let b = no-bits (groupProgramBad model file n) (pair ∷ []) (a .1) in
     let d = good-pair sf (groupWord file n 1) (groupWord file n 2) (no-bits pair [] (b .1) .0) in
     rw t (record { on = d .0; off = d .1; offset = leb-false sf (groupWord file n 3) (a .0) }))
     (λ t. rw t (no-group sf s))
 
-keep-group : (m : Model) (p : Programming) (file : List ℕ) → eqb (groupErrors m (scaleFactor (p .setup)) file) 0 ≡ true → Within p
+keep-group : (model : Model) (p : Programming) (file : List ℕ) → eqb (groupErrors model (scaleFactor (p .setup)) file) 0 ≡ true → Within p
     → Within (withGroups p (table 6 1 (groupOf file)))
 unfolding withGroups groupErrors failingGroup
-keep-group m p file e k =
+keep-group model p file e k =
     let sf : ℕ = scaleFactor (p .setup) in
     let s : 0 < sf = omega arith in
-    let z = none-failing 6 (groupBits m sf file) (groupReserved file) (eqb-true _ 0 e) in
+    let z = none-failing 6 (groupBits model sf file) (groupReserved file) (eqb-true _ 0 e) in
     record {
       least = k .least;
       most = k .most;
       preset = k .preset;
       offset = k .offset;
-      groups = all-table (GroupWithin sf) noGroup (no-group sf s) 6 1 (groupOf file) (λ j a b. block-group m sf file j s (z j a (omega arith)));
+      groups = all-table (GroupWithin sf) noGroup (no-group sf s) 6 1 (groupOf file) (λ j a b. block-group model sf file j s (z j a (omega arith)));
       limits = all-replicate (LimitWithin sf) pastLimits (past-limits sf s) 32 noLimit (no-limit sf s);
     }
 
 -- a limit block that passes: of a normal switch each of the eight pairs, of the others the first
-block-pair : (sf : ℕ) (file : List ℕ) (n k : ℕ) → setpointBad sf file n ≡ false → eqb (controlType (limitWord file n 0)) 0 ≡ true → k < 16
-    → limitWord file n (k + 3) < sf
-unfolding setpointBad limitPairBad
-block-pair sf file n k e t b =
+block-pair : (sf : ℕ) (b : List ℕ) (k : ℕ) → setpointBad sf b ≡ false → eqb (blockType b) 0 ≡ true → k < 16 → word b (k + 3) < sf
+unfolding setpointBad blockPairBad
+block-pair sf b k e t l =
     let j : ℕ = k / 2 in
-    let h = good-pair sf (limitWord file n (2 * j + 3)) (limitWord file n (2 * j + 4))
-    (none-of-some 8 0 (limitPairBad sf file n) (rw t at e) j (omega arith) (omega arith)) in
+    let h = good-pair sf (word b (2 * j + 3)) (word b (2 * j + 4)) (none-of-some 8 0 (blockPairBad sf b) (rw t at e) j (omega arith) (omega arith)) in
     by (eqb (k % 2) 0)
     (λ d. let r = eqb-true (k % 2) 0 d in let i : k + 3 ≡ 2 * j + 3 = omega arith in rw i (h .0))
     (λ d. let r = eqb-false (k % 2) 0 d in let i : k + 3 ≡ 2 * j + 4 = omega (arith, r) in rw i (h .1))
 
-first-pair : (sf : ℕ) (file : List ℕ) (n k : ℕ) → setpointBad sf file n ≡ false → eqb (controlType (limitWord file n 0)) 0 ≡ false → k < 2
-    → limitWord file n (k + 3) < sf
-unfolding setpointBad limitPairBad
-first-pair sf file n zero e t b = good-pair sf (limitWord file n 3) (limitWord file n 4) (rw t at e) .0
-first-pair sf file n (suc zero) e t b = good-pair sf (limitWord file n 3) (limitWord file n 4) (rw t at e) .1
-first-pair sf file n (suc (suc k)) e t b = absurd (omega arith)
+first-pair : (sf : ℕ) (b : List ℕ) (k : ℕ) → setpointBad sf b ≡ false → eqb (blockType b) 0 ≡ false → k < 2 → word b (k + 3) < sf
+unfolding setpointBad blockPairBad
+first-pair sf b zero e t l = good-pair sf (word b 3) (word b 4) (rw t at e) .0
+first-pair sf b (suc zero) e t l = good-pair sf (word b 3) (word b 4) (rw t at e) .1
+first-pair sf b (suc (suc k)) e t l = absurd (omega arith)
 
-block-setpoint : (sf : ℕ) (file : List ℕ) (n k : ℕ) → 0 < sf → setpointBad sf file n ≡ false → k < 16 → setpointOf file n k < sf
-block-setpoint sf file n k s e b =
-    by (eqb (controlType (limitWord file n 0)) 0)
-    (λ t. rw t (block-pair sf file n k e t b))
-    (λ t. by (ltb k 2) (λ l. rw (t, l) (first-pair sf file n k e t (ltb-true k 2 l))) (λ l. rw (t, l) s))
+block-setpoint : (sf : ℕ) (b : List ℕ) (k : ℕ) → 0 < sf → setpointBad sf b ≡ false → k < 16 → setpointOf b k < sf
+block-setpoint sf b k s e l =
+    by (eqb (blockType b) 0)
+    (λ t. rw t (block-pair sf b k e t l))
+    (λ t. by (ltb k 2) (λ i. rw (t, i) (first-pair sf b k e t (ltb-true k 2 i))) (λ i. rw (t, i) s))
 
-block-good : (sf : ℕ) (fifth : Bool) (file : List ℕ) (n : ℕ) → blockBits sf fifth file n ≡ 0 → setpointBad sf file n ≡ false
+block-good : (sf : ℕ) (fifth : Bool) (b : List ℕ) → blockBits sf fifth b ≡ 0 → setpointBad sf b ≡ false
 unfolding blockBits controlBad
-block-good sf fifth file n e =
-    let lengths : List Bool = lengthBad sf fifth file n ∷ touchBad sf fifth file n ∷ [] in
-    let rest : List Bool = cond (eqb (controlType (limitWord file n 0)) 3) [] (setpointBad sf file n ∷ lengths) in
-    let advances : Bool = advanceBad (limitWord file n 1) || advanceBad (limitWord file n 2) in
-    let a = no-bits false (controlBad (limitWord file n 0) ∷ advances ∷ rest) e in
-    let b = no-bits (controlBad (limitWord file n 0)) (advances ∷ rest) (a .1) in
-    let c = no-bits advances rest (b .1) in
-    let f = neither (eqb (controlDetector (limitWord file n 0)) 3) (eqb (controlType (limitWord file n 0)) 3) (neither _ _ (b .0) .0) in
-    no-bits (setpointBad sf file n) lengths (rw (f .1) at (c .1)) .0
+block-good sf fifth b e =
+    let lengths : List Bool = lengthBit sf fifth b ∷ touchBit sf fifth b ∷ [] in
+    let rest : List Bool = cond (eqb (blockType b) 3) [] (setpointBad sf b ∷ lengths) in
+    let advances : Bool = advanceBad (word b 1) || advanceBad (word b 2) in
+    let a = no-bits false (controlBad (word b 0) ∷ advances ∷ rest) e in
+    let d = no-bits (controlBad (word b 0)) (advances ∷ rest) (a .1) in
+    let c = no-bits advances rest (d .1) in
+    let f = neither (eqb (controlDetector (word b 0)) 3) (eqb (controlType (word b 0)) 3) (neither _ _ (d .0) .0) in
+    no-bits (setpointBad sf b) lengths (rw (f .1) at (c .1)) .0
 
-block-limit : (m : Model) (p : Programming) (file : List ℕ) (n : ℕ) → 0 < scaleFactor (p .setup) → limitBits m p file n ≡ 0
-    → LimitWithin (scaleFactor (p .setup)) (limitFrom m file n)
-unfolding limitBits limitFrom
-block-limit m p file n s e =
+block-limit : (model : Model) (p : Programming) (file : List ℕ) (n : ℕ) → 0 < scaleFactor (p .setup) → limitBits model p file n ≡ 0
+    → LimitWithin (scaleFactor (p .setup)) (limitFrom model file n)
+unfolding limitBits limitFrom limitOfBlock
+block-limit model p file n s e =
     let sf : ℕ = scaleFactor (p .setup) in
-    by (not (present m (n - 1)) || allZero file n)
+    by (unread model file n)
     (λ t. rw t (no-limit sf s))
-    (λ t. by (not (p .setup .independent) && eqb (ownerOf p (n - 1)) 0)
+    (λ t. by (unassigned p n)
     (λ o. let z : 1 ≡ 0 = rw (t, o) at e in absurd (omega arith))
-    (λ o. let g = block-good sf (fifthTimed file n) file n (rw (t, o) at e) in
-    rw t (all-table (λ (x : ℕ). x < sf) 0 s 16 0 (setpointOf file n) (λ j a b. block-setpoint sf file n j s g (omega arith)))))
+    (λ o. let g = block-good sf (fifthTimed file n) (limitBlock file n) (rw (t, o) at e) in
+    rw t (all-table (λ (x : ℕ). x < sf) 0 s 16 0 (setpointOf (limitBlock file n)) (λ j a b. block-setpoint sf (limitBlock file n) j s g (omega arith)))))
 
-keep-limit : (m : Model) (p : Programming) (file : List ℕ) → eqb (limitErrors m p file) 0 ≡ true → Within p
-    → Within (withLimits p (table 32 1 (limitFrom m file)))
+keep-limit : (model : Model) (p : Programming) (file : List ℕ) → eqb (limitErrors model p file) 0 ≡ true → Within p
+    → Within (withLimits p (table 32 1 (limitFrom model file)))
 unfolding withLimits limitErrors failingLimit
-keep-limit m p file e k =
+keep-limit model p file e k =
     let sf : ℕ = scaleFactor (p .setup) in
     let s : 0 < sf = omega arith in
-    let z = none-failing 32 (limitBits m p file) (limitReserved file) (eqb-true _ 0 e) in
+    let z = none-failing 32 (limitBits model p file) (limitReserved file) (eqb-true _ 0 e) in
     record {
       least = k .least;
       most = k .most;
       preset = k .preset;
       offset = k .offset;
       groups = k .groups;
-      limits = all-table (LimitWithin sf) pastLimits (past-limits sf s) 32 1 (limitFrom m file) (λ j a b. block-limit m p file j s (z j a (omega arith)));
+      limits = all-table (LimitWithin sf) pastLimits (past-limits sf s) 32 1 (limitFrom model file) (λ j a b. block-limit model p file j s (z j a (omega arith)));
     }
 
 -- a nudged pair passed the pair's check
 nudged-pair : (sf : ℕ) (l : Limit) (k w : ℕ) → nudgeSetpointBad sf l k w ≡ false
-    → (nudgedIf (bit w 8) (bit w 10) (onSetpoint l k) < sf) × (nudgedIf (bit w 9) (bit w 10) (offSetpoint l k) < sf)
+    → (nudgedIf (bit w onBit) (bit w downBit) (onSetpoint l k) < sf) × (nudgedIf (bit w offBit) (bit w downBit) (offSetpoint l k) < sf)
 unfolding nudgeSetpointBad resultBad
 nudged-pair sf l k w e =
-    let on : ℕ = nudgedIf (bit w 8) (bit w 10) (onSetpoint l k) in
-    let off : ℕ = nudgedIf (bit w 9) (bit w 10) (offSetpoint l k) in
+    let on : ℕ = nudgedIf (bit w onBit) (bit w downBit) (onSetpoint l k) in
+    let off : ℕ = nudgedIf (bit w offBit) (bit w downBit) (offSetpoint l k) in
     let unused : Bool = not (usedPair (onSetpoint l k) (offSetpoint l k)) in
-    let leaves : Bool = bit w 8 && leavesRange sf (bit w 10) (onSetpoint l k) in
-    let leaves′ : Bool = bit w 9 && leavesRange sf (bit w 10) (offSetpoint l k) in
-    let r = neither (unused || leaves || leaves′) (resultBad sf (l .switch) on off) e .1 in
-    let f = neither (not (usedPair on off) || pairBad sf on off) (nudgeFails sf (l .switch) on off) r .0 in
+    let leaves : Bool = bit w onBit && leavesRange sf (bit w downBit) (onSetpoint l k) in
+    let leaves′ : Bool = bit w offBit && leavesRange sf (bit w downBit) (offSetpoint l k) in
+    let r = neither (unused || leaves || leaves′) (resultBad sf (limitSwitch l) on off) e .1 in
+    let f = neither (not (usedPair on off) || pairBad sf on off) (nudgeFails sf (limitSwitch l) on off) r .0 in
     good-pair sf on off (neither (not (usedPair on off)) (pairBad sf on off) f .1)
 
 keep-nudge : (p : Programming) (w : ℕ)
@@ -316,8 +322,8 @@ keep-nudge p w e k =
     let s : 0 < sf = omega arith in
     let l : Limit = limitOf p (nudgeOutput w) in
     let j : ℕ = nudgePair w in
-    let on : ℕ = nudgedIf (bit w 8) (bit w 10) (onSetpoint l j) in
-    let off : ℕ = nudgedIf (bit w 9) (bit w 10) (offSetpoint l j) in
+    let on : ℕ = nudgedIf (bit w onBit) (bit w downBit) (onSetpoint l j) in
+    let off : ℕ = nudgedIf (bit w offBit) (bit w downBit) (offSetpoint l j) in
     let h = nudged-pair sf l j w (not-true (nudgeSetpointBad sf l j w) (both (not (nudgeOutputBad p w)) (not (nudgeSetpointBad sf l j w)) e .1)) in
     record {
       least = k .least;
@@ -330,12 +336,16 @@ keep-nudge p w e k =
           (all-set (λ (x : ℕ). x < sf) 0 s (l .setpoints) (2 * j) on (h .0) (k .limits (nudgeOutput w)))) (k .limits);
     }
 
-pub ranges : (m : Model) (l : List Call) → Within (programmingOf m l)
+keep-file : (kind : FileCycle) (g : Configuration) (file : List ℕ) → eqb (fileErrors kind g file) 0 ≡ true → Within (g .programming) → Within (brought kind g file)
+unfolding fileErrors brought
+keep-file SetupCycle g file e k = keep-setup (g .programming) file (g .raw) e k
+keep-file GroupCycle g file e k = keep-group (modelIn g) (g .programming) file e k
+keep-file LimitCycle g file e k = keep-limit (modelIn g) (g .programming) file e k
+
+pub ranges : (model : Model) (l : List Call) → Within (programmingOf model l)
 unfolding defaultSetup
-ranges m l = always Within (record {
+ranges model l = always Within (record {
   start = no-programs defaultSetup (lit≤ tt) (lit≤ tt) (lit< tt) (lit< tt);
-  setup = keep-setup;
-  group = keep-group;
-  limit = keep-limit;
+  file = keep-file;
   nudge = keep-nudge;
-}) m l
+}) model l

@@ -11,9 +11,10 @@ use Rattle.rules.specs.declared.Model.{Model}
 use Rattle.rules.specs.declared.Switch.the-variants.{Timed}
 use Rattle.rules.specs.declared.Programming.{Programming}
 use Rattle.rules.specs.declared.Window.{Window}
-use Rattle.rules.specs.declared.State.{State}
+use Rattle.rules.specs.declared.SinceStart.{SinceStart}
 use Rattle.rules.specs.declared.Module.{Module}
 use Rattle.rules.specs.Motion.{scaleFactor, windowSteps, shortSteps}
+use Rattle.rules.specs.Variants.{limitSwitch}
 use Rattle.rules.specs.Switches.{timedSteps, limitOf}
 use Rattle.rules.specs.Calls.{Call}
 use Rattle.rules.specs.Card.{biasedMovement, windowSum, groupStateAt, timedAt}
@@ -30,15 +31,15 @@ pub record WindowWithin (size : ℕ) (w : Window) (next : ℕ → ℕ) : Type 0 
   pub steps : w .steps < size
   pub sum : (q : ℕ) → w .sum + next q < 2 ^ 32
 
-pub record StateWithin (p : Programming) (x : State) : Type 0 where
+pub record StateWithin (p : Programming) (x : SinceStart) : Type 0 where
   pub short : WindowWithin shortSteps (x .speed .short) (biasedMovement (x .speed .last))
   pub long : WindowWithin (windowSteps (p .setup .fast)) (x .speed .long) (biasedMovement (x .speed .last))
   pub shift : (n : ℕ) → n < 6 → groupStateAt x n .shift < scaleFactor (p .setup)
-  pub left : (n t : ℕ) → n < 32 → limitOf p n .switch ≡ Timed t → timedAt x n .left ≤ timedSteps t
+  pub left : (n t : ℕ) → n < 32 → limitSwitch (limitOf p n) ≡ Timed t → timedAt x n .left ≤ timedSteps t
 
 pub record ModuleWithin (x : Module) : Type 0 where
   pub programming : Within (x .configuration .programming)
-  pub state : StateWithin (x .configuration .programming) (x .state)
+  pub state : StateWithin (x .configuration .programming) (x .state .since)
 
 -- where the sum fits, `windowSum` is the plain sum
 pub plain-sum : (size : ℕ) (w : Window) (next : ℕ → ℕ) → WindowWithin size w next → (q : ℕ) → windowSum w (next q) ≡ w .sum + next q
@@ -49,29 +50,29 @@ left-below : (n passed : ℕ) (held : Bool) → cond held (n - passed) 0 ≤ n
 left-below n passed true = omega arith
 left-below n passed false = omega arith
 
-state-within : (m : Model) (l : List Call) → StateWithin (configurationOf m l .programming) (run m l .state)
-state-within m l =
-    let k = agrees m l in
-    let p : Programming = configurationOf m l .programming in
-    let x : State = run m l .state in
+state-within : (model : Model) (l : List Call) → StateWithin (configurationOf model l .programming) (run model l .state .since)
+state-within model l =
+    let k = agrees model l in
+    let p : Programming = configurationOf model l .programming in
+    let x : SinceStart = run model l .state .since in
     record {
       short = record {
-        steps = steps-below shortSteps (lit< tt) (lit≤ tt) (movements (sinceModuleStart m l)) (x .speed .short) (k .speed .short);
-        sum = λ q. sum-fits shortSteps (lit< tt) (lit≤ tt) (movements (sinceModuleStart m l)) (x .speed .short) (k .speed .short)
+        steps = steps-below shortSteps (lit< tt) (lit≤ tt) (movements (sinceModuleStart model l)) (x .speed .short) (k .speed .short);
+        sum = λ q. sum-fits shortSteps (lit< tt) (lit≤ tt) (movements (sinceModuleStart model l)) (x .speed .short) (k .speed .short)
             (biasedMovement (x .speed .last) q) (biased-below (x .speed .last) q);
       };
       long = record {
-        steps = steps-below (windowSteps (p .setup .fast)) (long-some _) (long-small _) (movements (sinceModuleStart m l)) (x .speed .long) (k .speed .long);
-        sum = λ q. sum-fits (windowSteps (p .setup .fast)) (long-some _) (long-small _) (movements (sinceModuleStart m l)) (x .speed .long) (k .speed .long)
+        steps = steps-below (windowSteps (p .setup .fast)) (long-some _) (long-small _) (movements (sinceModuleStart model l)) (x .speed .long) (k .speed .long);
+        sum = λ q. sum-fits (windowSteps (p .setup .fast)) (long-some _) (long-small _) (movements (sinceModuleStart model l)) (x .speed .long) (k .speed .long)
             (biasedMovement (x .speed .last) q) (biased-below (x .speed .last) q);
       };
-      shift = λ n b. rw (k .groups n b .shift) (shift-below (p .setup .top) (lastTaken (pastOf (sinceGroupStart m l n))));
-      left = λ n t b e. rw (k .timed n b t e .left) (left-below (timedSteps t) (passedOf (sinceLimitStart m l n)) (heldAt (sinceLimitStart m l n)));
+      shift = λ n b. rw (k .groups n b .shift) (shift-below (p .setup .top) (lastTaken (pastOf (sinceGroupStart model l n))));
+      left = λ n t b e. rw (k .timed n b t e .left) (left-below (timedSteps t) (passedOf (sinceLimitStart model l n)) (heldAt (sinceLimitStart model l n)));
     }
 
 -- THE REACHABLE MODULES
-pub reachable : (m : Model) (l : List Call) → ModuleWithin (run m l)
-reachable m l = record {
-  programming = rw (configuration-is m l) (ranges m l);
-  state = rw (configuration-is m l) (state-within m l);
+pub reachable : (model : Model) (l : List Call) → ModuleWithin (run model l)
+reachable model l = record {
+  programming = rw (configuration-is model l) (ranges model l);
+  state = rw (configuration-is model l) (state-within model l);
 }

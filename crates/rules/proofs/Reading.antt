@@ -10,7 +10,9 @@ use native.Mathlib.Omega.{arith}
 use lib.ListN.{length}
 use Rattle.rules.specs.declared.Mode.the-variants.{Mode2, Mode3, Mode4, Mode5}
 use Rattle.rules.specs.declared.Switch.the-variants.{Timed}
-use Rattle.rules.specs.Groups.{ahead, presets, dwellHolds, groupPosition}
+use Rattle.rules.specs.Variants.{groupMode}
+use Rattle.rules.specs.Counts.{ahead}
+use Rattle.rules.specs.Groups.{presets, dwellHolds, groupPosition}
 use Rattle.rules.specs.Switches.{timedSteps}
 use Rattle.rules.specs.Quant.{exists, every, afterEach, noLater, latestSaw, heldUnder}
 use Rattle.rules.specs.History.{GroupStep, PastStep, beginsAt, takesAt, levelAt, edgeAt, stopAt, lastTaken, presetPosition, positionFrom, positionAt, dwellAt, begins, takes, pastOf, latestDwellSaw, qualifiesAt, countsAt, openAt, heldAt, lasts}
@@ -79,7 +81,7 @@ begins-reads s h = refl
 -- an edge is taken: Mode 1 or 2, an edge, and none was taken since the start, or a dwell begins in this step or began since the last taken one
 pub takes-reads : (s : GroupStep) (h : List GroupStep)
     → takesAt (pastOf (s ∷ h))
-    ≡ (presets (s .program .mode)
+    ≡ (presets (groupMode (s .program))
     && edgeAt (pastOf (s ∷ h))
     && (not (exists takesAt (pastOf h)) || beginsAt (pastOf (s ∷ h)) || afterEach beginsAt takesAt (pastOf h)))
 unfolding pastOf takesAt takes edgeAt beginsAt
@@ -117,18 +119,18 @@ noneTaken-reads (x ∷ h) e =
 noneTaken-reads [] e = λ k r. absurd (none-of r)
 
 -- Modes 1 and 2: the preset in force at the last edge taken plus the travel from there, modulo SF; with no such edge the machine's
-pub preset-reads : (s : PastStep) (h : List PastStep) (taken : PastStep) → presets (s .program .mode) ≡ true → lastTaken (s ∷ h) ≡ some taken
+pub preset-reads : (s : PastStep) (h : List PastStep) (taken : PastStep) → presets (groupMode (s .program)) ≡ true → lastTaken (s ∷ h) ≡ some taken
     → positionAt (s ∷ h) .0 ≡ (taken .program .offset + ahead (s .sf) (taken .event .machine .0) (s .event .machine .0)) % s .sf
 unfolding positionAt positionFrom presetPosition
 preset-reads s h taken e f = rw (e, f)
 
-pub machine-reads : (s : PastStep) (h : List PastStep) → presets (s .program .mode) ≡ true → lastTaken (s ∷ h) ≡ none
+pub machine-reads : (s : PastStep) (h : List PastStep) → presets (groupMode (s .program)) ≡ true → lastTaken (s ∷ h) ≡ none
     → positionAt (s ∷ h) .0 ≡ s .event .machine .0
 unfolding positionAt positionFrom presetPosition
 machine-reads s h e f = rw (e, f)
 
 -- Modes 0, 3, 4, 5: Machine Position plus the group offset, modulo SF
-pub offset-reads : (s : PastStep) (h : List PastStep) → presets (s .program .mode) ≡ false
+pub offset-reads : (s : PastStep) (h : List PastStep) → presets (groupMode (s .program)) ≡ false
     → positionAt (s ∷ h) .0 ≡ (s .event .machine .0 + s .program .offset) % s .sf
 unfolding positionAt positionFrom groupPosition
 offset-reads s h e = rw e

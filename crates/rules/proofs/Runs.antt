@@ -7,18 +7,26 @@ use mathlib.Core.List.{List, [], _∷_, map}
 use lib.ListN.{replicate}
 use lib.IntN.{pos}
 use Rattle.rules.specs.declared.Model.the-variants.{M8513}
-use Rattle.rules.specs.declared.IoType.the-variants.{Virtual}
 use Rattle.rules.specs.declared.Mode.{Mode}
 use Rattle.rules.specs.declared.Mode.the-variants.{Mode5}
+use Rattle.rules.specs.declared.Module.{Module}
+use Rattle.rules.specs.declared.FileCycle.the-variants.{SetupCycle, GroupCycle, LimitCycle}
 use Rattle.rules.specs.declared.Answer.{Answer}
 use Rattle.rules.specs.Words
+use Rattle.rules.specs.Variants
+use Rattle.rules.specs.Counts
 use Rattle.rules.specs.Motion
 use Rattle.rules.specs.Groups
 use Rattle.rules.specs.Switches
-use Rattle.rules.specs.Programming
-use Rattle.rules.specs.Calls.{Call, Step, SetupCall, GroupCall, LimitCall, NudgeCall, configurationAfter}
+use Rattle.rules.specs.Cycle
+use Rattle.rules.specs.SetupWords
+use Rattle.rules.specs.GroupWords
+use Rattle.rules.specs.LimitWords
+use Rattle.rules.specs.FileCycle
+use Rattle.rules.specs.Nudge
+use Rattle.rules.specs.Calls.{Call, Step, FileCall, NudgeCall, defaultSetup, freshConfiguration, sound, stepConfiguration, configurationAfter}
 use Rattle.rules.specs.Card.{poweredUp}
-use Rattle.rules.specs.Run.{modelNumber, answers}
+use Rattle.rules.specs.Run.{answers}
 use Rattle.rules.specs.Quant
 use Rattle.rules.specs.History
 use Rattle.rules.specs.History.{GroupStep, pastOf, openAt, cOf, rpmAt, expectedAnswers}
@@ -30,32 +38,72 @@ words : Unit {0}
 unfolding Words.bit Words.packed Words.someOf Words.eachOf Words.countOf Words.lowestOf Words.table Words.storedAt Words.otherBit Words.anyWord Words.modulo Words.roundHalfUp Words.signedWord Words.differing xor
 words = tt
 
+variants : Unit {0}
+unfolding Variants.modelKnown Variants.modelOf Variants.modelNumber Variants.realCount Variants.virtualCount Variants.ioCount Variants.codeOf Variants.modeOf Variants.switchOf Variants.andedOf
+variants = tt
+
 motion : Unit {0}
-unfolding Motion.realCount Motion.ioCount Motion.realInput Motion.inputLevel Motion.turned Motion.scaledPosition Motion.machinePosition Motion.machineAt Motion.movement Motion.windowSteps Motion.windowTime Motion.rpmOf Motion.isStop Motion.tachValue Motion.tachReading Motion.tachOverflow Motion.detects
+unfolding Motion.realInput Motion.turned Motion.scaledPosition Motion.machinePosition Motion.machineAt Motion.movement Motion.windowSteps Motion.windowTime Motion.rpmOf Motion.isStop Motion.tachValue Motion.tachShown Motion.tachOverflow Motion.detects Motion.realInputs Motion.conditions Motion.faultConditions
 motion = tt
 
 groups : Unit {0}
-unfolding Groups.ahead Groups.holds Groups.dwellHolds Groups.groupPosition Groups.presetShift Groups.presets Groups.stops Groups.running Groups.isOpen
+unfolding Counts.ahead Counts.holds Counts.pairBad Groups.dwellHolds Groups.groupPosition Groups.presetShift Groups.presets Groups.groupEvent Groups.stops Groups.running Groups.isOpen
 groups = tt
 
-switches : Unit {0}
-unfolding Switches.advanceShift Switches.moved Switches.pairHolds Switches.normalHolds Switches.pulseStart Switches.pulseOn Switches.pulseHolds Switches.switchHolds Switches.present Switches.switchPosition Switches.admitted Switches.andsHold Switches.outputRule Switches.outputOn Switches.changedCount Switches.soundAnswer Switches.faultAnswer
-switches = tt
+switches1 : Unit {0}
+unfolding Switches.advanceShift Switches.moved Switches.pairHolds Switches.normalHolds Switches.pulseStart Switches.pulseOn Switches.pulseHolds Switches.switchHolds Switches.present Switches.switchPosition Switches.admitted Switches.enableHolds Switches.passes Switches.outputRule Switches.ruleAt Switches.timedHolds Switches.outputOn
+switches1 = tt
 
-programming : Unit {0}
-unfolding Programming.defaultSetup Programming.freshConfiguration Programming.stands Programming.acts Programming.opened Programming.cycle Programming.idleCycle Programming.turnedAway Programming.ignoredCycle Programming.refusedCycle Programming.acceptedCycle Programming.judged Programming.setupReserved Programming.sfBad Programming.sfJudged Programming.detectorBad Programming.scalarsBad Programming.setupErrors Programming.presetOffset Programming.setupOf Programming.withSetup Programming.setupActs Programming.setupCycle Programming.groupOf Programming.dealtUpTo Programming.dealtTo Programming.ownersOf Programming.pairBad Programming.groupProgramBad Programming.groupBits Programming.groupReserved Programming.failingGroup Programming.groupErrors Programming.withGroups Programming.groupActs Programming.groupCycle Programming.allZero Programming.limitFrom Programming.controlBad Programming.advanceBad Programming.limitPairBad Programming.setpointBad Programming.fifthTimed Programming.pulseBad Programming.pulsesTouch Programming.lengthBad Programming.touchBad Programming.blockBits Programming.limitBits Programming.limitReserved Programming.failingLimit Programming.limitErrors Programming.withLimits Programming.limitActs Programming.limitCycle Programming.nudgeOutputBad Programming.nudgedTo Programming.leavesRange Programming.resultBad Programming.nudgeSetpointBad Programming.nudgedLimit Programming.nudgedProgramming Programming.nudgeActs Programming.nudgeCycle Programming.sound Programming.stepConfiguration configurationAfter
-programming = tt
+switches2 : Unit {0}
+unfolding Switches.changedCount Switches.outputWords Switches.answerOf
+switches2 = tt
+
+cycles1 : Unit {0}
+unfolding Cycle.numberOf Cycle.stands Cycle.acts Cycle.underway Cycle.idleCycle Cycle.cycle Cycle.turnedAway Cycle.ignoredCycle Cycle.refusedCycle Cycle.acceptedCycle Cycle.judged FileCycle.fileLength FileCycle.lengthRefusal FileCycle.commandAt FileCycle.statusAt FileCycle.dataRefusal FileCycle.barred FileCycle.fileErrors
+cycles1 = tt
+
+cycles2 : Unit {0}
+unfolding FileCycle.failing FileCycle.brought FileCycle.fileActs FileCycle.fileCycle FileCycle.statusWords FileCycle.fileAfter Nudge.nudgeOutputBad Nudge.nudgedTo Nudge.leavesRange Nudge.resultBad Nudge.nudgeSetpointBad Nudge.nudgedLimit Nudge.nudgedProgramming Nudge.nudgeActs Nudge.nudgeCycle
+cycles2 = tt
+
+setupWords : Unit {0}
+unfolding SetupWords.setupCommandBits SetupWords.setupReserved SetupWords.sfBad SetupWords.sfJudged SetupWords.detectorBad SetupWords.scalarsBad SetupWords.setupErrors SetupWords.presetOffset SetupWords.setupOf SetupWords.withSetup
+setupWords = tt
+
+groupWords : Unit {0}
+unfolding GroupWords.groupControlBits GroupWords.groupOf GroupWords.dealtUpTo GroupWords.dealtTo GroupWords.ownersOf GroupWords.groupProgramBad GroupWords.groupBits GroupWords.groupCommandBits GroupWords.groupReserved GroupWords.failingGroup GroupWords.groupErrors GroupWords.withGroups
+groupWords = tt
+
+limitWords1 : Unit {0}
+unfolding LimitWords.limitBlock LimitWords.allZero LimitWords.actionOf LimitWords.limitOfBlock LimitWords.limitControlBits LimitWords.controlBad LimitWords.advanceBad LimitWords.blockPairBad LimitWords.setpointBad LimitWords.pulseBad LimitWords.pulsesTouch LimitWords.lengthBad LimitWords.touchBad LimitWords.lengthBit LimitWords.touchBit
+limitWords1 = tt
+
+limitWords2 : Unit {0}
+unfolding LimitWords.blockBits LimitWords.unread LimitWords.limitFrom LimitWords.fifthTimed LimitWords.unassigned LimitWords.limitBits LimitWords.limitCommandBits LimitWords.limitReserved LimitWords.failingLimit LimitWords.limitErrors LimitWords.withLimits
+limitWords2 = tt
+
+calls : Unit {0}
+unfolding defaultSetup freshConfiguration sound stepConfiguration configurationAfter
+calls = tt
 
 quantifiers : Unit {0}
 unfolding Quant.afterEach Quant.noLater Quant.latestSaw Quant.heldUnder
 quantifiers = tt
 
-past : Unit {0}
-unfolding History.configurationOf History.isModuleStart History.isGroupStart History.isLimitStart History.since History.turnedIn History.sinceModuleStart History.movementFrom History.movements History.windowTotal History.cOf History.rpmAt History.updateAt History.rpmIn History.beginsAt History.takesAt History.levelAt History.firstAt History.edgeAt History.firstEdgeAt History.stopAt History.runningAt History.lastTaken History.presetPosition History.positionFrom History.positionAt History.dwellAt History.begins History.takes History.pastOf History.latestDwellSaw History.qualifiesAt History.countsAt History.openAt History.eventIn History.groupStepIn History.sinceGroupStart History.groupPast History.positionIn History.openIn History.pairIn History.sinceLimitStart History.heldAt History.lasts History.lastsIn History.expectedConditions History.expectedRule History.expectedOutput History.lastPosition History.previousVirtuals History.expectedAnswer History.expectedAnswers
-past = tt
+past1 : Unit {0}
+unfolding History.configurationOf History.isModuleStart History.isGroupStart History.isLimitStart History.since History.turnedIn History.sinceModuleStart History.movementFrom History.movements History.windowTotal History.cOf History.rpmAt History.updateAt History.rpmIn History.conditionsIn History.beginsAt History.takesAt History.levelAt
+past1 = tt
+
+past2 : Unit {0}
+unfolding History.firstAt History.edgeAt History.firstEdgeAt History.stopAt History.runningAt History.lastTaken History.presetPosition History.positionFrom History.positionAt History.dwellAt History.begins History.takes History.pastOf History.latestDwellSaw History.qualifiesAt History.countsAt History.openAt History.groupStepIn
+past2 = tt
+
+past3 : Unit {0}
+unfolding History.sinceGroupStart History.groupPast History.positionIn History.openIn History.positionsIn History.opennessIn History.pairIn History.sinceLimitStart History.heldAt History.lasts History.lastsIn History.ruleIn History.outputsIn History.lastPosition History.previousVirtuals History.expectedAnswer History.expectedAnswers
+past3 = tt
 
 computes : Unit {0}
-unfolding words motion groups switches programming quantifiers past
+unfolding words variants motion groups switches1 switches2 cycles1 cycles2 setupWords groupWords limitWords1 limitWords2 calls quantifiers past1 past2 past3
 computes = tt
 
 -- ---- Whole cards
@@ -85,7 +133,7 @@ m1 control on off duration =
 
 -- the three cycles, then the steps
 abbrev with : List ℕ → List ℕ → List Call → List Call
-with file limits steps = SetupCall file ∷ GroupCall file ∷ LimitCall limits ∷ steps
+with file limits steps = FileCall SetupCycle file ∷ FileCall GroupCycle file ∷ FileCall LimitCycle limits ∷ steps
 
 abbrev mode4 : List ℕ
 mode4 = m0 0xC401 0 50 0
@@ -123,7 +171,7 @@ cardRuns =
     -- 1023 is answered 11, and so is the next step; a nudge with bit 14 drops the fault, and the group is closed, since 11 was a start; an edge in the dwell opens it
     ∷ record {
       calls = with mode4 whole
-          (at 10 1 ∷ GroupCall (replicate 120 0) ∷ GroupCall (m0 0xC401 0 50 1024) ∷ at 20 0 ∷ at 5000 1 ∷ at 30 1 ∷ NudgeCall 0xC000 ∷ at 60 0 ∷ at 10 1 ∷ []);
+          (at 10 1 ∷ FileCall GroupCycle (replicate 120 0) ∷ FileCall GroupCycle (m0 0xC401 0 50 1024) ∷ at 20 0 ∷ at 5000 1 ∷ at 30 1 ∷ NudgeCall 0xC000 ∷ at 60 0 ∷ at 10 1 ∷ []);
       says = (false, 1) ∷ (false, 1) ∷ (true, 0) ∷ (true, 0) ∷ (false, 0) ∷ (false, 1) ∷ [];
     }
     ∷ []
@@ -133,15 +181,17 @@ runs-are : map (λ (r : CardRun). map shown (expectedAnswers M8513 [] (r .calls)
 unfolding computes cardRuns m0 m1
 runs-are = refl
 
-same-answers : (rs : List CardRun)
-    → map (λ (r : CardRun). map shown (answers (poweredUp (modelNumber M8513) .card) (r .calls))) rs
+-- an 8513, whatever the place held
+same-answers : (x : Module) (rs : List CardRun)
+    → map (λ (r : CardRun). map shown (answers (poweredUp x 8513 .card) (r .calls))) rs
     ≡ map (λ (r : CardRun). map shown (expectedAnswers M8513 [] (r .calls))) rs
-same-answers [] = refl
-same-answers (r ∷ rs) = rw (every-answer M8513 (r .calls), same-answers rs)
+unfolding Variants.modelOf Variants.modelKnown
+same-answers x [] = refl
+same-answers x (r ∷ rs) = rw (every-answer x 8513 refl (r .calls), same-answers x rs)
 
 -- so the card runs
-card-runs : map (λ (r : CardRun). map shown (answers (poweredUp (modelNumber M8513) .card) (r .calls))) cardRuns ≡ map (λ (r : CardRun). r .says) cardRuns
-card-runs = same-answers cardRuns ∙ runs-are
+card-runs : (x : Module) → map (λ (r : CardRun). map shown (answers (poweredUp x 8513 .card) (r .calls))) cardRuns ≡ map (λ (r : CardRun). r .says) cardRuns
+card-runs x = same-answers x cardRuns ∙ runs-are
 
 -- ---- A Mode 5 group, whose speed would take a card hundreds of steps
 
@@ -154,7 +204,7 @@ openings mode past (s ∷ steps) = openAt mode (pastOf (s ∷ past)) ∷ opening
 step : ℕ → Bool → Bool → ℕ → Bool → GroupStep
 step p level first rpm update = record {
   sf = 1024;
-  program = record { used = true; kind = Virtual; firstcycle = Virtual; mode = Mode5; quantity = 1; dwell = record { on = 0; off = 50 }; offset = 0 };
+  program = record { used = true; isvirtual = true; firstvirtual = true; mode = 5; quantity = 1; dwell = record { on = 0; off = 50 }; offset = 0 };
   event = record { machine = record { 0 = p }; level = level; first = first; rpm = rpm; update = update };
 }
 

@@ -8,16 +8,15 @@ use native.Mathlib.Nat.{zero-mod, suc-mod, mod-lt, mod-self, mod-eq-of-lt, mod-l
 use native.Mathlib.Omega.{arith}
 use lib.ListN.{length, take, drop}
 use lib.Dec.{ltb, eqb, lit<, lit≤}
-use lib.IntN.{ℤ, pos, negℤ, subℕ, _+ℤ_, _-ℤ_, +ℤ-assoc, +ℤ-comm, negℤ-+ℤ}
+use lib.IntN.{ℤ, pos, negsuc, negℤ, subℕ, _+ℤ_, _-ℤ_, +ℤ-assoc, +ℤ-comm, negℤ-+ℤ}
 use borrow.Author.Tests.{ltb-true, ltb-false, leb-true, leb-false, lt-ltb, le-ltb, eq-eqb, ne-eqb}
 use Rattle.rules.specs.declared.Setup.{Setup}
 use Rattle.rules.specs.declared.Last.{Last}
-use Rattle.rules.specs.declared.Last.the-variants.{NoStep, At}
 use Rattle.rules.specs.declared.Window.{Window}
 use Rattle.rules.specs.declared.Speed.{Speed}
-use Rattle.rules.specs.Words.{roundHalfUp}
-use Rattle.rules.specs.Motion.{movement, windowSteps, windowTime, shortSteps, rpmOf, travelValue}
-use Rattle.rules.specs.Card.{biasedMovement, updates, windowSum, windowAfter, travelOf, travelAfter, rpmAfter, speedAfter, freshWindow, freshSpeed}
+use Rattle.rules.specs.Words.{modulo, roundHalfUp}
+use Rattle.rules.specs.Motion.{movement, windowSteps, windowTime, shortSteps, rpmOf, movementValue, movementOf}
+use Rattle.rules.specs.Card.{biasedMovement, updates, windowSum, windowAfter, windowMovement, cAfter, rpmAfter, speedAfter, freshWindow, freshSpeed}
 use Rattle.rules.specs.History.{movementFrom, movements, total, windowTotal, cOf, rpmAt, updateAt}
 use Rattle.rules.proofs.Laws.{modulo-below, minus}
 
@@ -34,26 +33,17 @@ add-differences : (a b c d : ℕ) → (pos a -ℤ pos b) +ℤ (pos c -ℤ pos d)
 add-differences a b c d =
     exchange (pos a) (negℤ (pos b)) (pos c) (negℤ (pos d)) ∙ ap (λ (z : ℤ). pos (a + c) +ℤ z) (sym (negℤ-+ℤ (pos b) (pos d)))
 
--- a sum of so many biased movements, as sign and magnitude
-pub travel-value : (size sum : ℕ) → travelValue (travelOf size sum) ≡ pos sum -ℤ pos (512 * size)
-unfolding travelOf
-travel-value size sum = go (ltb sum (512 * size)) refl ∙ sym (minus sum (512 * size))
-  where
-    go : (q : Bool) → ltb sum (512 * size) ≡ q
-        → travelValue (cond q (record { negative = true; counts = 512 * size - sum }) (record { negative = false; counts = sum - 512 * size }))
-        ≡ subℕ sum (512 * size)
-    go true e =
-        let l = ltb-true sum (512 * size) e in
-        let s : 512 * size - sum ≡ suc (512 * size - suc sum) = omega arith in
-        rw (e, s)
-    go false e = rw e
+-- a sign and a magnitude stand for the number that they were made of
+pub movement-value : (z : ℤ) → movementValue (movementOf z) ≡ z
+movement-value (pos n) = refl
+movement-value (negsuc n) = refl
 
 -- ---- Movements
 
 -- q of the last step, as the card keeps it
 pub lastOf : List ℕ → Last
-lastOf [] = NoStep
-lastOf (q ∷ qs) = At q
+lastOf [] = record { stepped = false; at = 0 }
+lastOf (q ∷ qs) = record { stepped = true; at = q }
 
 pub movement-is : (qs : List ℕ) (q : ℕ) → movementFrom qs q ≡ pos (biasedMovement (lastOf qs) q) -ℤ pos 512
 unfolding movementFrom lastOf biasedMovement movement
@@ -62,8 +52,11 @@ movement-is (last ∷ qs) q = refl
 
 pub biased-below : (last : Last) (q : ℕ) → biasedMovement last q ≤ 1023
 unfolding biasedMovement
-biased-below NoStep q = lit≤ tt
-biased-below (At last) q = let b = modulo-below (subℕ q last +ℤ pos 512) 1023 in omega arith
+biased-below last q = go (last .stepped)
+  where
+    go : (b : Bool) → cond b (modulo (subℕ q (last .at) +ℤ pos 512) 1024) 512 ≤ 1023
+    go true = let b = modulo-below (subℕ q (last .at) +ℤ pos 512) 1023 in omega arith
+    go false = lit≤ tt
 
 length-movements : (qs : List ℕ) → length (movements qs) ≡ length qs
 unfolding movements
@@ -147,18 +140,18 @@ module _ (w : ℕ) (some : 0 < w) (small : w ≤ 2520) (h : List ℤ) (x : Windo
             }
 
     -- what an update gives, and what stands between updates
-    pub value-is : (v : ℤ) → v ≡ windowTotal w h → cond (updates w x) (travelValue (travelOf w (windowSum x m))) v ≡ windowTotal w (z ∷ h)
+    pub value-is : (v : ℤ) → v ≡ windowTotal w h → cond (updates w x) (subℕ (windowSum x m) (512 * w)) v ≡ windowTotal w (z ∷ h)
     unfolding windowTotal
     value-is v i = go (updates w x) refl
       where
         go : (q : Bool) → updates w x ≡ q
-            → cond q (travelValue (travelOf w (windowSum x m))) v
+            → cond q (subℕ (windowSum x m) (512 * w)) v
             ≡ cond (ltb (suc (length h)) w) (pos 0) (total (take w (drop (suc (length h) % w) (z ∷ h))))
         go true e =
             let E = last e in
             let l = mod-le (length h) w in
             let s : suc (x .steps) ≡ w = ap suc (k .steps) ∙ E in
-            rw (le-ltb (suc (length h)) w (omega arith), wraps E, sum-is, travel-value w (x .sum + m))
+            rw (le-ltb (suc (length h)) w (omega arith), wraps E, sum-is, ← minus (x .sum + m) (512 * w))
             ((rw s at total-is) ∙ ap (λ (n : ℕ). total (take n (z ∷ h))) E)
         go false e = rw (goes (inner e), early (inner e) (ltb (length h) w) refl) i
 
@@ -171,7 +164,7 @@ pub record SpeedLink (fast : Bool) (x : Speed) (qs : List ℕ) : Type 0 where
   pub last : x .last ≡ lastOf qs
   pub short : WindowLink shortSteps (movements qs) (x .short)
   pub long : WindowLink (windowSteps fast) (movements qs) (x .long)
-  pub travel : travelValue (x .travel) ≡ cOf qs
+  pub c : x .c ≡ movementOf (cOf qs)
   pub rpm : x .rpm ≡ rpmAt fast qs
 
 short-some : 0 < shortSteps
@@ -200,31 +193,30 @@ module _ (u : Setup) (x : Speed) (qs : List ℕ) (k : SpeedLink (u .fast) x qs) 
   abbrev b : m ≤ 1023
   b = biased-below (x .last) q
 
-  pub travel-is : travelValue (travelAfter x m) ≡ cOf (q ∷ qs)
-  unfolding travelAfter cOf movements
-  travel-is =
-      go (updates shortSteps (x .short))
-      ∙ value-is shortSteps short-some short-small (movements qs) (x .short) (k .short) m b (travelValue (x .travel)) (unfold cOf in k .travel)
-      ∙ ap (λ (z : ℤ). windowTotal shortSteps (z ∷ movements qs)) m-is
+  pub c-is : cAfter x m ≡ movementOf (cOf (q ∷ qs))
+  unfolding cAfter cOf movements windowMovement
+  c-is =
+      rw (k .c) (go (updates shortSteps (x .short)))
+      ∙ ap movementOf (value-is shortSteps short-some short-small (movements qs) (x .short) (k .short) m b (cOf qs) (unfold cOf in refl)
+      ∙ ap (λ (z : ℤ). windowTotal shortSteps (z ∷ movements qs)) m-is)
     where
-      go : (c : Bool)
-          → travelValue (cond c (travelOf shortSteps (windowSum (x .short) m)) (x .travel))
-          ≡ cond c (travelValue (travelOf shortSteps (windowSum (x .short) m))) (travelValue (x .travel))
+      go : (u : Bool)
+          → cond u (movementOf (subℕ (windowSum (x .short) m) (512 * shortSteps))) (movementOf (cOf qs))
+          ≡ movementOf (cond u (subℕ (windowSum (x .short) m) (512 * shortSteps)) (cOf qs))
       go true = refl
       go false = refl
 
   pub rpm-is : rpmAfter (u .fast) x m ≡ rpmAt (u .fast) (q ∷ qs)
-  unfolding rpmAfter rpmAt movements
+  unfolding rpmAfter rpmAt movements windowMovement
   rpm-is =
       go (updates (windowSteps (u .fast)) (x .long))
       ∙ ap (rpmOf (u .fast)) (value-is (windowSteps (u .fast)) (long-some (u .fast)) (long-small (u .fast)) (movements qs) (x .long) (k .long) m b _ refl)
       ∙ ap (λ (z : ℤ). rpmOf (u .fast) (windowTotal (windowSteps (u .fast)) (z ∷ movements qs))) m-is
     where
       go : (c : Bool)
-          → cond c (rpmOf (u .fast) (travelValue (travelOf (windowSteps (u .fast)) (windowSum (x .long) m)))) (x .rpm)
-          ≡ rpmOf (u .fast)
-          (cond c (travelValue (travelOf (windowSteps (u .fast)) (windowSum (x .long) m))) (windowTotal (windowSteps (u .fast)) (movements qs)))
-      go true = refl
+          → cond c (rpmOf (u .fast) (movementValue (movementOf (subℕ (windowSum (x .long) m) (512 * windowSteps (u .fast)))))) (x .rpm)
+          ≡ rpmOf (u .fast) (cond c (subℕ (windowSum (x .long) m) (512 * windowSteps (u .fast))) (windowTotal (windowSteps (u .fast)) (movements qs)))
+      go true = ap (rpmOf (u .fast)) (movement-value _)
       go false = unfold rpmAt in k .rpm
 
   pub updates-is : updates (windowSteps (u .fast)) (x .long) ≡ updateAt (u .fast) (q ∷ qs)
@@ -239,7 +231,7 @@ module _ (u : Setup) (x : Speed) (qs : List ℕ) (k : SpeedLink (u .fast) x qs) 
     last = refl;
     short = rw (← m-is) (window-step shortSteps short-some short-small (movements qs) (x .short) (k .short) m b);
     long = rw (← m-is) (window-step (windowSteps (u .fast)) (long-some (u .fast)) (long-small (u .fast)) (movements qs) (x .long) (k .long) m b);
-    travel = travel-is;
+    c = c-is;
     rpm = rpm-is;
   }
 
@@ -249,7 +241,7 @@ speed-fresh fast = record {
   last = refl;
   short = window-fresh shortSteps;
   long = window-fresh (windowSteps fast);
-  travel = refl;
+  c = refl;
   rpm = go fast;
 }
   where

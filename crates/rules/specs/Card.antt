@@ -1,53 +1,60 @@
--- The card as a state machine: the module before a call, the call, the module after it and its answer. The contracts of the public calls cite these definitions.
+-- The state machine: what each call does to a module, its answer and its file. The contracts of the public calls cite it.
 -- Assumes nothing.
 use Prim.Native.Nat.{ℕ, _+_, _-_, _*_, _%_, _^_}
 use mathlib.Core.Bool.{Bool, true, false, cond, not, _&&_, _||_}
-use mathlib.Core.List.{List, [], _∷_, map}
+use mathlib.Core.List.{List}
 use lib.ListN.{getD, replicate}
 use lib.Dec.{ltb, leb}
-use lib.IntN.{pos, subℕ, _+ℤ_}
+use lib.IntN.{subℕ, pos, _+ℤ_}
 use Rattle.rules.specs.declared.MachinePosition.{MachinePosition}
 use Rattle.rules.specs.declared.GroupPosition.{GroupPosition}
 use Rattle.rules.specs.declared.Model.{Model}
 use Rattle.rules.specs.declared.Mode.{Mode}
-use Rattle.rules.specs.declared.Mode.the-variants.{Mode0, Mode1, Mode2, Mode3, Mode4, Mode5}
+use Rattle.rules.specs.declared.Mode.the-variants.{NoMode, Mode0, Mode1, Mode2, Mode3, Mode4, Mode5}
 use Rattle.rules.specs.declared.Setup.{Setup}
 use Rattle.rules.specs.declared.Group.{Group}
 use Rattle.rules.specs.declared.Switch.{Switch}
 use Rattle.rules.specs.declared.Switch.the-variants.{Unprogrammed, Normal, Pulse, Timed}
+use Rattle.rules.specs.declared.Limit.{Limit}
 use Rattle.rules.specs.declared.Programming.{Programming}
 use Rattle.rules.specs.declared.Configuration.{Configuration}
 use Rattle.rules.specs.declared.Last.{Last}
-use Rattle.rules.specs.declared.Last.the-variants.{NoStep, At}
 use Rattle.rules.specs.declared.Window.{Window}
-use Rattle.rules.specs.declared.Travel.{Travel}
+use Rattle.rules.specs.declared.Movement.{Movement}
 use Rattle.rules.specs.declared.Speed.{Speed}
 use Rattle.rules.specs.declared.GroupState.{GroupState}
 use Rattle.rules.specs.declared.TimedState.{TimedState}
+use Rattle.rules.specs.declared.SinceStart.{SinceStart}
+use Rattle.rules.specs.declared.Kept.{Kept}
 use Rattle.rules.specs.declared.State.{State}
 use Rattle.rules.specs.declared.Module.{Module}
 use Rattle.rules.specs.declared.Sample.{Sample}
+use Rattle.rules.specs.declared.Conditions.{Conditions}
 use Rattle.rules.specs.declared.Event.{Event}
+use Rattle.rules.specs.declared.FileCycle.{FileCycle}
+use Rattle.rules.specs.declared.FileCycle.the-variants.{SetupCycle, GroupCycle, LimitCycle}
 use Rattle.rules.specs.declared.Refusal.the-variants.{UnknownModule}
-use Rattle.rules.specs.declared.Outcome.{Outcome}
-use Rattle.rules.specs.declared.Outcome.the-variants.{Idle, Accepted, Refused}
-use Rattle.rules.specs.declared.Decided.{Decided}
-use Rattle.rules.specs.declared.Programmed.{Programmed}
+use Rattle.rules.specs.declared.Outcome.the-variants.{Accepted, Refused}
+use Rattle.rules.specs.declared.Decision.{Decision}
+use Rattle.rules.specs.declared.CycleResult.{CycleResult}
+use Rattle.rules.specs.declared.OutputWords.{OutputWords}
 use Rattle.rules.specs.declared.Answer.{Answer}
-use Rattle.rules.specs.declared.Stepped.{Stepped}
-use Rattle.rules.specs.Words.{wordOf, table, modulo}
-use Rattle.rules.specs.Motion.{levelOf, scaleFactor, turned, machineAt, windowSteps, shortSteps, rpmOf, detects, travelValue}
-use Rattle.rules.specs.Groups.{groupAt, dwellHolds, groupPosition, presetShift, presets, edge, stops, running, isOpen}
-use Rattle.rules.specs.Switches.{pairHolds, timedSteps, Conditions, limitOf, switchPosition, outputRule, outputOn, soundAnswer, faultAnswer}
-use Rattle.rules.specs.Programming.{freshConfiguration, modelKnown, modelOf, setupCycle, setupFile, groupCycle, groupFile, limitCycle, limitFile, nudgeCycle, sound, stepConfiguration}
-pub use Rattle.rules.specs.Programming.{isAccepted}
+use Rattle.rules.specs.declared.StepResult.{StepResult}
+use Rattle.rules.specs.Words.{table, modulo}
+use Rattle.rules.specs.Variants.{modelKnown, modelOf, modelIn, groupMode, limitSwitch}
+use Rattle.rules.specs.Motion.{turned, machineAt, windowSteps, shortSteps, rpmOf, movementValue, movementOf, conditions, faultConditions, scale}
+use Rattle.rules.specs.Groups.{noGroup, dwellHolds, groupPosition, presetShift, presets, edge, stops, running, isOpen, groupEvent, ofGroup, noPosition}
+use Rattle.rules.specs.Switches.{timedSteps, limitOf, ownerOf, ruleAt, timedHolds, outputWords, answerOf}
+use Rattle.rules.specs.Cycle.{isAccepted}
+use Rattle.rules.specs.FileCycle.{fileCycle, fileAfter}
+use Rattle.rules.specs.Nudge.{nudgeCycle}
+use Rattle.rules.specs.Calls.{freshConfiguration, sound, stepConfiguration}
 
 -- ---- Speed
 
 -- a step's movement with 512 added, "and 0 on the first step after a module start"
 unfoldable pub biasedMovement : Last → ℕ → ℕ
-biasedMovement NoStep q = 512
-biasedMovement (At last) q = modulo (subℕ q last +ℤ pos 512) 1024
+biasedMovement last q = cond (last .stepped) (modulo (subℕ q (last .at) +ℤ pos 512) 1024) 512
 
 -- the step that comes is the window's last
 unfoldable pub updates : ℕ → Window → Bool
@@ -55,32 +62,31 @@ updates size w = leb (size - 1) (w .steps)
 
 -- The sum with one movement more. It is kept in 32 bits; no list of calls from power-up makes it run over.
 unfoldable pub windowSum : Window → ℕ → ℕ
-windowSum w m = (w .sum + m) % 2 ^ 32
+windowSum w moved = (w .sum + moved) % 2 ^ 32
 
 unfoldable pub windowAfter : ℕ → Window → ℕ → Window
-windowAfter size w m = cond (updates size w) (record { steps = 0; sum = 0 }) (record { steps = w .steps + 1; sum = windowSum w m })
+windowAfter size w moved = cond (updates size w) (record { steps = 0; sum = 0 }) (record { steps = w .steps + 1; sum = windowSum w moved })
 
--- a sum of movements, the 512 of each step taken off again
-unfoldable pub travelOf : ℕ → ℕ → Travel
-travelOf size sum =
-    cond (ltb sum (512 * size)) (record { negative = true; counts = 512 * size - sum }) (record { negative = false; counts = sum - 512 * size })
+-- the movements that a window's sum stands for, the 512 of each step taken off again
+unfoldable pub windowMovement : ℕ → ℕ → Movement
+windowMovement size sum = movementOf (subℕ sum (512 * size))
 
--- c and rpm after a step with movement m, where the windows are as before it
-unfoldable pub travelAfter : Speed → ℕ → Travel
-travelAfter x m = cond (updates shortSteps (x .short)) (travelOf shortSteps (windowSum (x .short) m)) (x .travel)
+-- c and rpm after a step with the biased movement `moved`, where the windows are as before it
+unfoldable pub cAfter : Speed → ℕ → Movement
+cAfter x moved = cond (updates shortSteps (x .short)) (windowMovement shortSteps (windowSum (x .short) moved)) (x .c)
 
 unfoldable pub rpmAfter : Bool → Speed → ℕ → ℕ
-rpmAfter fast x m =
+rpmAfter fast x moved =
     cond (updates (windowSteps fast) (x .long))
-    (rpmOf fast (travelValue (travelOf (windowSteps fast) (windowSum (x .long) m))))
+    (rpmOf fast (movementValue (windowMovement (windowSteps fast) (windowSum (x .long) moved))))
     (x .rpm)
 
 unfoldable pub speedAfter : Setup → Speed → ℕ → Speed
 speedAfter u x q = record {
-  last = At q;
+  last = record { stepped = true; at = q };
   short = windowAfter shortSteps (x .short) (biasedMovement (x .last) q);
   long = windowAfter (windowSteps (u .fast)) (x .long) (biasedMovement (x .last) q);
-  travel = travelAfter x (biasedMovement (x .last) q);
+  c = cAfter x (biasedMovement (x .last) q);
   rpm = rpmAfter (u .fast) x (biasedMovement (x .last) q);
 }
 
@@ -88,7 +94,7 @@ speedAfter u x q = record {
 
 -- Group Position where the shift is `shift`
 unfoldable pub positionBy : ℕ → Group → ℕ → MachinePosition → GroupPosition
-positionBy sf g shift m = groupPosition sf (cond (presets (g .mode)) shift (g .offset)) m
+positionBy sf g shift machine = groupPosition sf (cond (presets (groupMode g)) shift (g .offset)) machine
 
 -- the dwell "begins at a step where it holds and did not at the end of the previous step, judged before any edge is taken"
 unfoldable pub beginsNow : ℕ → Group → GroupState → Event → Bool
@@ -96,7 +102,7 @@ beginsNow sf g x e = dwellHolds sf (g .dwell) (positionBy sf g (x .shift) (e .ma
 
 -- "An edge is taken if no edge was taken since group start, or a dwell has begun since the last taken one, this step included."
 unfoldable pub takesNow : ℕ → Group → GroupState → Event → Bool
-takesNow sf g x e = presets (g .mode) && edge (x .level) (e .level) && (not (x .taken) || beginsNow sf g x e || x .begun)
+takesNow sf g x e = presets (groupMode g) && edge (x .level) (e .level) && (not (x .taken) || beginsNow sf g x e || x .begun)
 
 -- "Taking sets the position to the preset in force at that step"
 unfoldable pub shiftNow : ℕ → Group → GroupState → Event → ℕ
@@ -116,6 +122,7 @@ qualifiedNow sf g x e = (heldNow sf g x e && running e) || (not (beginsNow sf g 
 -- Mode 2: "opened by a taken edge, closed by a dwell's beginning, closing first". Mode 4: "a dwell's beginning closes; an edge in the dwell opens, same step included".
 -- Mode 5: a beginning closes, a qualifying step opens, "A stop closes. An edge of the First Cycle Input that isn't in a stop step opens if a qualifying step came since the dwell began".
 unfoldable pub openedNow : Mode → ℕ → Group → GroupState → Event → Bool
+openedNow NoMode sf g x e = false
 openedNow Mode0 sf g x e = false
 openedNow Mode1 sf g x e = false
 openedNow Mode2 sf g x e = takesNow sf g x e || (not (beginsNow sf g x e) && x .opened)
@@ -136,7 +143,7 @@ groupAfter sf g x e = record {
   taken = takesNow sf g x e || x .taken;
   begun = not (takesNow sf g x e) && (beginsNow sf g x e || x .begun);
   qualified = qualifiedNow sf g x e;
-  opened = openedNow (g .mode) sf g x e;
+  opened = openedNow (groupMode g) sf g x e;
 }
 
 -- "before a group start's first step it did not hold and every group and First Cycle input was inactive"; the shift is "0 at group start"; "Modes 2, 4, 5 start closed."
@@ -146,51 +153,43 @@ freshGroup =
 
 -- ---- A step
 
-abbrev pub groupStateAt : State → ℕ → GroupState
+abbrev pub groupStateAt : SinceStart → ℕ → GroupState
 groupStateAt x n = getD (x .groups) n freshGroup
-
-abbrev pub noPosition : GroupPosition
-noPosition = record { 0 = 0 }
 
 abbrev pub freshTimed : TimedState
 freshTimed = record { held = false; left = 0 }
 
-abbrev pub timedAt : State → ℕ → TimedState
+abbrev pub timedAt : SinceStart → ℕ → TimedState
 timedAt x n = getD (x .timed) n freshTimed
 
-unfoldable pub speedAt : Configuration → State → Sample → Speed
-speedAt g x s = speedAfter (g .programming .setup) (x .speed) (turned (g .programming .setup .reversed) (s .raw))
+unfoldable pub speedNow : Setup → Speed → Sample → Speed
+speedNow u x s = speedAfter u x (turned (u .reversed) (s .raw))
 
--- what group n, from 0, meets: table 3.1, "group g 1 to 6, .. First Cycle 8; virtual 16 higher"
-unfoldable pub eventAt : Configuration → State → Sample → ℕ → Event
-eventAt g x s n = record {
-  machine = machineAt g s;
-  level = levelOf g s (groupAt (g .programming) n .kind) n;
-  first = levelOf g s (groupAt (g .programming) n .firstcycle) 7;
-  rpm = speedAt g x s .rpm;
-  update = updates (windowSteps (g .programming .setup .fast)) (x .speed .long);
-}
+-- what the step's groups and outputs read
+unfoldable pub conditionsNow : Configuration → SinceStart → Sample → Conditions
+conditionsNow g x s =
+    conditions g s (speedNow (g .programming .setup) (x .speed) s .c) (speedNow (g .programming .setup) (x .speed) s .rpm)
+    (updates (windowSteps (g .programming .setup .fast)) (x .speed .long))
 
-unfoldable pub groupsAt : Configuration → State → Sample → ℕ → GroupState
-groupsAt g x s n =
-    groupAfter (scaleFactor (g .programming .setup)) (groupAt (g .programming) n) (groupStateAt x n) (eventAt g x s n)
+-- a group, with the number n from 0, after the step; the Group Position that the step leaves, "0 for a group unused then"; whether the group is open
+unfoldable pub groupNow : Conditions → Group → GroupState → ℕ → GroupState
+groupNow w g x n = groupAfter (scale w) g x (groupEvent w g n)
 
--- the Group Position that the step leaves; "0 for a group unused then"
-unfoldable pub positionAt : Configuration → State → Sample → ℕ → GroupPosition
-positionAt g x s n =
-    cond (groupAt (g .programming) n .used)
-    (positionNow (scaleFactor (g .programming .setup)) (groupAt (g .programming) n) (groupStateAt x n) (eventAt g x s n))
-    noPosition
+unfoldable pub leftPosition : Conditions → Group → GroupState → ℕ → GroupPosition
+leftPosition w g x n = cond (g .used) (positionNow (scale w) g x (groupEvent w g n)) noPosition
 
-unfoldable pub openAt : Configuration → State → Sample → ℕ → Bool
-openAt g x s n =
-    isOpen (groupAt (g .programming) n .mode) (eventAt g x s n .level) (groupsAt g x s n .opened)
+unfoldable pub openNow : Conditions → Group → GroupState → ℕ → Bool
+openNow w g x n = isOpen (groupMode g) (groupEvent w g n .level) (groupNow w g x n .opened)
 
--- the pair of output n, from 0, if it is timed
-unfoldable pub timedHolds : Configuration → State → Sample → ℕ → Bool
-timedHolds g x s n =
-    pairHolds (scaleFactor (g .programming .setup)) (travelValue (speedAt g x s .travel)) (limitOf (g .programming) n) 0
-    (switchPosition (g .programming) (machineAt g s) (positionAt g x s) n)
+-- the same of the six groups
+unfoldable pub groupsNow : Conditions → List Group → List GroupState → List GroupState
+groupsNow w gs xs = table 6 0 (λ n. groupNow w (getD gs n noGroup) (getD xs n freshGroup) n)
+
+unfoldable pub positionsNow : Conditions → List Group → List GroupState → List GroupPosition
+positionsNow w gs xs = table 6 0 (λ n. leftPosition w (getD gs n noGroup) (getD xs n freshGroup) n)
+
+unfoldable pub opennessNow : Conditions → List Group → List GroupState → List Bool
+opennessNow w gs xs = table 6 0 (λ n. openNow w (getD gs n noGroup) (getD xs n freshGroup) n)
 
 -- "its pair holds and fewer than 5 × T steps have passed since it began to hold"
 unfoldable pub timedAfter : Switch → Bool → TimedState → TimedState
@@ -199,25 +198,23 @@ timedAfter Normal held x = freshTimed
 timedAfter (Pulse q k) held x = freshTimed
 timedAfter (Timed t) held x = record { held = held; left = cond held (cond (x .held) (x .left - 1) (timedSteps t)) 0 }
 
-unfoldable pub timedNow : Configuration → State → Sample → ℕ → TimedState
-timedNow g x s n = timedAfter (limitOf (g .programming) n .switch) (timedHolds g x s n) (timedAt x n)
+-- a timed switch after the step, where its output's group is at `position`
+unfoldable pub timedNow : Conditions → Limit → GroupPosition → TimedState → TimedState
+timedNow w l position x = timedAfter (limitSwitch l) (timedHolds w l position) x
 
-unfoldable pub conditionsAt : Configuration → State → Sample → Conditions
-conditionsAt g x s = record {
-  c = travelValue (speedAt g x s .travel);
-  md1 = detects (g .programming .setup .md1) (speedAt g x s .rpm);
-  md2 = detects (g .programming .setup .md2) (speedAt g x s .rpm);
-  machine = machineAt g s;
-  position = positionAt g x s;
-  isopen = openAt g x s;
-  level = levelOf g s;
-  lasting = λ n. ltb 0 (timedNow g x s n .left);
-}
+-- that of output n, from 0, of the card, where the six groups' positions are these
+unfoldable pub timedOf : Programming → Conditions → List GroupPosition → List TimedState → ℕ → TimedState
+timedOf p w positions xs n = timedNow w (limitOf p n) (ofGroup noPosition positions (ownerOf p n)) (getD xs n freshTimed)
 
--- an output's state; in a step answered 11 "unforced outputs off"
-unfoldable pub outputAt : Configuration → State → Sample → ℕ → Bool
-outputAt g x s n =
-    outputOn (g .model) s (λ k. sound g s && outputRule (g .programming) (conditionsAt g x s) k) n
+-- output n, from 0, before the forces
+unfoldable pub ruleNow : Programming → Conditions → SinceStart → ℕ → Bool
+ruleNow p w x n =
+    ruleAt p w (positionsNow w (p .groups) (x .groups)) (opennessNow w (p .groups) (x .groups))
+    (λ k. ltb 0 (timedOf p w (positionsNow w (p .groups) (x .groups)) (x .timed) k .left)) n
+
+-- the words of outputs; in a step answered 11 "unforced outputs off"
+unfoldable pub outputsNow : Configuration → SinceStart → Sample → OutputWords
+outputsNow g x s = outputWords (modelIn g) s (λ n. sound g s && ruleNow (g .programming) (conditionsNow g x s) x n)
 
 -- ---- Starts
 
@@ -225,100 +222,97 @@ abbrev pub freshWindow : Window
 freshWindow = record { steps = 0; sum = 0 }
 
 abbrev pub freshSpeed : Speed
-freshSpeed =
-    record { last = NoStep; short = freshWindow; long = freshWindow; travel = record { negative = false; counts = 0 }; rpm = 0 }
-
--- "Module start"; what runs since power-up stays
-unfoldable pub moduleStart : MachinePosition → ℕ → State
-moduleStart position virtuals = record {
-  speed = freshSpeed;
-  groups = replicate 6 freshGroup;
-  positions = replicate 6 noPosition;
-  timed = replicate 32 freshTimed;
-  position = position;
-  virtuals = virtuals;
+freshSpeed = record {
+  last = record { stepped = false; at = 0 };
+  short = freshWindow;
+  long = freshWindow;
+  c = record { negative = false; counts = 0 };
+  rpm = 0;
 }
+
+-- "Module start"
+unfoldable pub moduleStart : SinceStart
+moduleStart =
+    record { speed = freshSpeed; groups = replicate 6 freshGroup; positions = replicate 6 noPosition; timed = replicate 32 freshTimed }
 
 -- "Group start: a module start or an accepted group cycle."
-unfoldable pub groupStart : State → State
-groupStart x = record {
-  speed = x .speed;
-  groups = replicate 6 freshGroup;
-  positions = x .positions;
-  timed = replicate 32 freshTimed;
-  position = x .position;
-  virtuals = x .virtuals;
-}
+unfoldable pub groupStart : SinceStart → SinceStart
+groupStart x =
+    record { speed = x .speed; groups = replicate 6 freshGroup; positions = x .positions; timed = replicate 32 freshTimed }
 
 -- "Before the first step after an accepted limit cycle .. it did not hold."
-unfoldable pub limitStart : State → State
-limitStart x = record {
-  speed = x .speed;
-  groups = x .groups;
-  positions = x .positions;
-  timed = replicate 32 freshTimed;
-  position = x .position;
-  virtuals = x .virtuals;
-}
+unfoldable pub limitStart : SinceStart → SinceStart
+limitStart x = record { speed = x .speed; groups = x .groups; positions = x .positions; timed = replicate 32 freshTimed }
 
-unfoldable pub soundState : Configuration → State → Sample → State
-soundState g x s = record {
-  speed = speedAt g x s;
-  groups = table 6 0 (groupsAt g x s);
-  positions = table 6 0 (positionAt g x s);
-  timed = table 32 0 (timedNow g x s);
-  position = machineAt g s;
-  virtuals = wordOf 16 (outputAt g x s);
+-- the start that an accepted cycle is
+unfoldable pub startOf : FileCycle → SinceStart → SinceStart
+startOf SetupCycle x = moduleStart
+startOf GroupCycle x = groupStart x
+startOf LimitCycle x = limitStart x
+
+-- what a step leaves that is not answered 11
+unfoldable pub sinceAfter : Programming → Conditions → Speed → SinceStart → SinceStart
+sinceAfter p w speed x = record {
+  speed = speed;
+  groups = groupsNow w (p .groups) (x .groups);
+  positions = positionsNow w (p .groups) (x .groups);
+  timed = table 32 0 (timedOf p w (positionsNow w (p .groups) (x .groups)) (x .timed));
 }
 
 -- ---- The public calls
 
--- power-up; on refusal 3 the module's place holds an 8511's defaults
+-- a fresh module; NoModule's is what a place holds before the first power-up
 unfoldable pub freshModule : Model → Module
-freshModule m = record { configuration = freshConfiguration m; state = moduleStart (record { 0 = 0 }) 0 }
+freshModule model =
+    record { configuration = freshConfiguration model; state = record { since = moduleStart; kept = record { position = record { 0 = 0 }; virtuals = 0 } } }
 
-unfoldable pub poweredUp : ℕ → Programmed
-poweredUp n = record { card = freshModule (modelOf n); outcome = cond (modelKnown n) Accepted (Refused UnknownModule) }
+-- power-up of the place that holds m; 3 "gives no module", and the place stays as it was
+unfoldable pub poweredUp : Module → ℕ → CycleResult
+poweredUp m n =
+    cond (modelKnown n)
+    (record { card = freshModule (modelOf n); outcome = Accepted })
+    (record { card = m; outcome = Refused UnknownModule })
 
 -- a module after a cycle: the configuration that the cycle gives, and the start that its acceptance is
-abbrev pub programmed : Decided → State → State → Programmed
-programmed r started x =
-    record { card = record { configuration = r .configuration; state = cond (isAccepted (r .outcome)) started x }; outcome = r .outcome }
+abbrev pub withSince : State → SinceStart → State
+withSince x since = record { since = since; kept = x .kept }
 
-unfoldable pub setupCall : Module → List ℕ → Programmed
-setupCall m file =
-    programmed (setupCycle (m .configuration) file) (moduleStart (m .state .position) (m .state .virtuals)) (m .state)
+abbrev pub finished : Decision → SinceStart → State → CycleResult
+finished r started x =
+    record { card = record { configuration = r .configuration; state = withSince x (cond (isAccepted (r .outcome)) started (x .since)) }; outcome = r .outcome }
 
-unfoldable pub groupCall : Module → List ℕ → Programmed
-groupCall m file = programmed (groupCycle (m .configuration) file) (groupStart (m .state)) (m .state)
+-- a cycle that takes a file, and what the file then holds
+unfoldable pub fileCall : FileCycle → Module → List ℕ → CycleResult
+fileCall kind m file = finished (fileCycle kind (m .configuration) file) (startOf kind (m .state .since)) (m .state)
 
-unfoldable pub limitCall : Module → List ℕ → Programmed
-limitCall m file = programmed (limitCycle (m .configuration) file) (limitStart (m .state)) (m .state)
+unfoldable pub fileLeft : FileCycle → Module → List ℕ → List ℕ
+fileLeft kind m file = fileAfter kind (m .configuration) (m .state .since .positions) file
 
-unfoldable pub nudgeCall : Module → ℕ → Programmed
-nudgeCall m w = programmed (nudgeCycle (m .configuration) w) (m .state) (m .state)
+unfoldable pub nudgeCall : Module → ℕ → CycleResult
+nudgeCall m w = finished (nudgeCycle (m .configuration) w) (m .state .since) (m .state)
 
--- what the files then hold
-unfoldable pub setupFileAfter : Module → List ℕ → List ℕ
-setupFileAfter m file = setupFile (m .configuration) file
+-- the step; one answered 11 is a module start
+unfoldable pub sinceNow : Configuration → SinceStart → Sample → SinceStart
+sinceNow g x s =
+    cond (sound g s)
+    (sinceAfter (g .programming) (conditionsNow g x s) (speedNow (g .programming .setup) (x .speed) s) x)
+    moduleStart
 
-unfoldable pub groupFileAfter : Module → List ℕ → List ℕ
-groupFileAfter m file = groupFile (m .configuration) (map (λ (p : GroupPosition). p .0) (m .state .positions)) file
+unfoldable pub keptNow : Configuration → State → Sample → Kept
+keptNow g x s =
+    record { position = cond (sound g s) (machineAt g s) (x .kept .position); virtuals = outputsNow g (x .since) s .virtuals }
 
-unfoldable pub limitFileAfter : Module → List ℕ → List ℕ
-limitFileAfter m file = limitFile (m .configuration) file
-
--- the step
 unfoldable pub stepState : Configuration → State → Sample → State
-stepState g x s = cond (sound g s) (soundState g x s) (moduleStart (x .position) (wordOf 16 (outputAt g x s)))
+stepState g x s = record { since = sinceNow g (x .since) s; kept = keptNow g x s }
 
 unfoldable pub stepAnswer : Configuration → State → Sample → Answer
 stepAnswer g x s =
-    cond (sound g s)
-    (soundAnswer g s (speedAt g x s .rpm) (x .virtuals) (outputAt g x s))
-    (faultAnswer g (x .position) (x .virtuals) (outputAt g x s))
+    answerOf (g .programming .setup) (not (sound g s))
+    (cond (sound g s) (conditionsNow g (x .since) s) (faultConditions g s (x .kept .position)))
+    (x .kept .virtuals)
+    (outputsNow g (x .since) s)
 
-unfoldable pub stepCall : Module → Sample → Stepped
+unfoldable pub stepCall : Module → Sample → StepResult
 stepCall m s = record {
   card = record { configuration = stepConfiguration (m .configuration) s; state = stepState (m .configuration) (m .state) s };
   answer = stepAnswer (m .configuration) (m .state) s;

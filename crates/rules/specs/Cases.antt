@@ -1,32 +1,27 @@
 -- 01, "Cases shown": its lettered lines a) to i) as one table. proofs/Cases.antt has the theorem that the definitions give what each line says.
 -- Assumes nothing.
 use Prim.Native.Nat.{ℕ, zero, suc, _+_}
-use mathlib.Core.Bool.{Bool, true, false, cond, not, _&&_, _||_}
+use mathlib.Core.Bool.{Bool, true, false, not, _||_}
 use mathlib.Core.List.{List, [], _∷_}
 use mathlib.Core.Path.{_≡_}
 use lib.IntN.{ℤ, pos, negsuc}
-use Rattle.rules.specs.declared.GroupPosition.{GroupPosition}
 use Rattle.rules.specs.declared.Position.the-variants.{OfMachine}
-use Rattle.rules.specs.declared.IoType.the-variants.{Virtual}
-use Rattle.rules.specs.declared.DecimalCode.{DecimalCode}
-use Rattle.rules.specs.declared.DecimalCode.the-variants.{Code0, Code1, Code2, Code3}
-use Rattle.rules.specs.declared.Mode.the-variants.{Mode4}
-use Rattle.rules.specs.declared.Switch.the-variants.{Pulse}
-use Rattle.rules.specs.declared.Anded.the-variants.{Neither}
 use Rattle.rules.specs.declared.Limit.{Limit}
 use Rattle.rules.specs.declared.Group.{Group}
 use Rattle.rules.specs.declared.GroupState.{GroupState}
 use Rattle.rules.specs.declared.Event.{Event}
-use Rattle.rules.specs.Motion.{tachReading, rpmOf}
-use Rattle.rules.specs.Groups.{ahead, holds, isOpen}
+use Rattle.rules.specs.Motion.{tachShown, rpmOf}
+use Rattle.rules.specs.Groups.{isOpen}
+use Rattle.rules.specs.Variants.{groupMode}
+use Rattle.rules.specs.Counts.{ahead, holds}
 use Rattle.rules.specs.Switches.{moved, pulseHolds}
-use Rattle.rules.specs.Programming.{pulseBad, pulsesTouch}
+use Rattle.rules.specs.LimitWords.{pulseBad, pulsesTouch}
 use Rattle.rules.specs.Card.{groupAfter, freshGroup}
 
 -- A line of the table: what is given, and at the end what 01 says comes of it. SF is 1024 in all.
 pub data Case : Type 0 where
   -- rpm, multiplier, divisor less one, code: the tachometer's reading
-  tach : (rpm multiplier divider : ℕ) (code : DecimalCode) (says : ℕ) → Case
+  tach : (rpm multiplier divider code says : ℕ) → Case
   -- TResp, C: rpm
   speed : (fast : Bool) (c : ℤ) (says : ℕ) → Case
   -- advance, c, setpoint: where the setpoint acts
@@ -43,10 +38,10 @@ pub data Case : Type 0 where
 unfoldable pub cases : List Case
 cases =
     -- a) Tach for 100 rpm, 2, 3, codes 0 to 3: 67, 7, 1, 0
-    tach 100 2 2 Code0 67
-    ∷ tach 100 2 2 Code1 7
-    ∷ tach 100 2 2 Code2 1
-    ∷ tach 100 2 2 Code3 0
+    tach 100 2 2 0 67
+    ∷ tach 100 2 2 1 7
+    ∷ tach 100 2 2 2 1
+    ∷ tach 100 2 2 3 0
     -- b) C 1024, W 120: 500 rpm; W 504: 119
     ∷ speed true (pos 1024) 500
     ∷ speed false (pos 1024) 119
@@ -74,9 +69,9 @@ cases =
 -- the pulse switch of a line, with no advance
 unfoldable pub pulseSwitch : ℕ → ℕ → ℕ → ℕ → Limit
 pulseSwitch on off q k = record {
-  switch = Pulse q k;
+  action = record { kind = 2; quantity = q; count = k; duration = 0 };
   enable = false;
-  detector = Neither;
+  detector = 0;
   onadvance = record { negative = false; tenths = 0 };
   offadvance = record { negative = false; tenths = 0 };
   setpoints = on ∷ off ∷ [];
@@ -94,7 +89,7 @@ positionsWith (suc n) i f = keptIf (f i) i (positionsWith n (i + 1) f)
 -- the group of a line, and its openness at each of the steps
 unfoldable pub mode4Group : ℕ → ℕ → Group
 mode4Group on off =
-    record { used = true; kind = Virtual; firstcycle = Virtual; mode = Mode4; quantity = 1; dwell = record { on = on; off = off }; offset = 0 }
+    record { used = true; isvirtual = true; firstvirtual = true; mode = 4; quantity = 1; dwell = record { on = on; off = off }; offset = 0 }
 
 unfoldable pub stepEvent : ℕ → Bool → Event
 stepEvent p level = record { machine = record { 0 = p }; level = level; first = false; rpm = 60; update = false }
@@ -102,13 +97,13 @@ stepEvent p level = record { machine = record { 0 = p }; level = level; first = 
 unfoldable pub openings : Group → GroupState → List (ℕ × Bool) → List Bool
 openings g x [] = []
 openings g x (s ∷ steps) =
-    isOpen (g .mode) (s .1) (groupAfter 1024 g x (stepEvent (s .0) (s .1)) .opened)
+    isOpen (groupMode g) (s .1) (groupAfter 1024 g x (stepEvent (s .0) (s .1)) .opened)
     ∷ openings g (groupAfter 1024 g x (stepEvent (s .0) (s .1))) steps
 
 -- what a line says of the definitions
 abbrev pub Says : Case → Type 0
 Says (tach rpm multiplier divider code says) =
-    tachReading (record { multiplier = multiplier; divider = divider; code = code }) rpm ≡ says
+    tachShown (record { multiplier = multiplier; divider = divider; code = code }) rpm ≡ says
 Says (speed fast c says) = rpmOf fast c ≡ says
 Says (advance a c setpoint says) = moved 1024 a c setpoint ≡ says
 Says (pulses on off q k says) =

@@ -11,7 +11,7 @@ use Rattle.rules.specs.declared.MachinePosition.{MachinePosition}
 use Rattle.rules.specs.declared.GroupPosition.{GroupPosition}
 use Rattle.rules.specs.declared.Model.{Model}
 use Rattle.rules.specs.declared.Mode.{Mode}
-use Rattle.rules.specs.declared.Mode.the-variants.{Mode0, Mode1, Mode2, Mode3, Mode4, Mode5}
+use Rattle.rules.specs.declared.Mode.the-variants.{NoMode, Mode0, Mode1, Mode2, Mode3, Mode4, Mode5}
 use Rattle.rules.specs.declared.Setup.{Setup}
 use Rattle.rules.specs.declared.Group.{Group}
 use Rattle.rules.specs.declared.Switch.{Switch}
@@ -20,77 +20,81 @@ use Rattle.rules.specs.declared.Programming.{Programming}
 use Rattle.rules.specs.declared.Configuration.{Configuration}
 use Rattle.rules.specs.declared.Sample.{Sample}
 use Rattle.rules.specs.declared.Event.{Event}
+use Rattle.rules.specs.declared.FileCycle.the-variants.{SetupCycle, GroupCycle, LimitCycle}
+use Rattle.rules.specs.declared.Conditions.{Conditions}
+use Rattle.rules.specs.declared.OutputWords.{OutputWords}
 use Rattle.rules.specs.declared.Answer.{Answer}
-use Rattle.rules.specs.Words.{wordOf}
-use Rattle.rules.specs.Motion.{levelOf, scaleFactor, turned, machineAt, movement, windowSteps, shortSteps, rpmOf, detects}
-use Rattle.rules.specs.Groups.{groupAt, ahead, dwellHolds, groupPosition, presets, edge, stops, running}
-use Rattle.rules.specs.Switches.{pairHolds, timedSteps, Conditions, limitOf, switchPosition, outputRule, outputOn, soundAnswer, faultAnswer}
-use Rattle.rules.specs.Programming.{isAccepted, freshConfiguration, setupCycle, groupCycle, limitCycle, sound}
-use Rattle.rules.specs.Calls.{Call, Step, SetupCall, GroupCall, LimitCall, NudgeCall, configurationAfter}
+use Rattle.rules.specs.Words.{table}
+use Rattle.rules.specs.Variants.{groupMode, limitSwitch}
+use Rattle.rules.specs.Counts.{ahead}
+use Rattle.rules.specs.Motion.{scaleFactor, turned, machineAt, movement, windowSteps, shortSteps, rpmOf, movementOf, conditions, faultConditions}
+use Rattle.rules.specs.Groups.{groupAt, dwellHolds, groupPosition, presets, edge, stops, running, groupEvent, ofGroup, noPosition}
+use Rattle.rules.specs.Switches.{timedSteps, limitOf, ownerOf, timedHolds, ruleAt, outputWords, answerOf}
+use Rattle.rules.specs.Cycle.{isAccepted}
+use Rattle.rules.specs.FileCycle.{fileCycle}
+use Rattle.rules.specs.Calls.{Call, Step, FileCall, NudgeCall, freshConfiguration, sound, configurationAfter}
 use Rattle.rules.specs.Quant.{exists, afterEach, noLater, latestSaw, heldUnder}
 
 -- ---- The programming, the fault and the starts
 
 -- "From the module number and the calls' arguments alone, 01's rules say which cycles are accepted and which steps are answered 11, hence the programming, the fault and the starts."
 unfoldable pub configurationOf : Model → List Call → Configuration
-configurationOf m [] = freshConfiguration m
-configurationOf m (call ∷ l) = configurationAfter (configurationOf m l) call
+configurationOf model [] = freshConfiguration model
+configurationOf model (call ∷ l) = configurationAfter (configurationOf model l) call
 
 abbrev pub programmingOf : Model → List Call → Programming
-programmingOf m l = configurationOf m l .programming
+programmingOf model l = configurationOf model l .programming
 
 abbrev pub setupInForce : Model → List Call → Setup
-setupInForce m l = programmingOf m l .setup
+setupInForce model l = programmingOf model l .setup
 
 -- "Module start: power-up, an accepted setup cycle, or a step answered 11."
 unfoldable pub isModuleStart : Configuration → Call → Bool
 isModuleStart g (Step s) = not (sound g s)
-isModuleStart g (SetupCall file) = isAccepted (setupCycle g file .outcome)
-isModuleStart g (GroupCall file) = false
-isModuleStart g (LimitCall file) = false
+isModuleStart g (FileCall SetupCycle file) = isAccepted (fileCycle SetupCycle g file .outcome)
+isModuleStart g (FileCall GroupCycle file) = false
+isModuleStart g (FileCall LimitCycle file) = false
 isModuleStart g (NudgeCall w) = false
 
--- "Group start: a module start or an accepted group cycle."
-unfoldable pub isGroupStart : Configuration → Call → Bool
-isGroupStart g (Step s) = isModuleStart g (Step s)
-isGroupStart g (SetupCall file) = isModuleStart g (SetupCall file)
-isGroupStart g (GroupCall file) = isAccepted (groupCycle g file .outcome)
-isGroupStart g (LimitCall file) = false
-isGroupStart g (NudgeCall w) = false
+-- "Group start: a module start or an accepted group cycle.", of group n, from 0
+unfoldable pub isGroupStart : ℕ → Configuration → Call → Bool
+isGroupStart n g (Step s) = isModuleStart g (Step s)
+isGroupStart n g (FileCall SetupCycle file) = isModuleStart g (FileCall SetupCycle file)
+isGroupStart n g (FileCall GroupCycle file) = isAccepted (fileCycle GroupCycle g file .outcome)
+isGroupStart n g (FileCall LimitCycle file) = false
+isGroupStart n g (NudgeCall w) = false
 
--- where a timed switch starts: "an accepted limit cycle or group start"
-unfoldable pub isLimitStart : Configuration → Call → Bool
-isLimitStart g (Step s) = isGroupStart g (Step s)
-isLimitStart g (SetupCall file) = isGroupStart g (SetupCall file)
-isLimitStart g (GroupCall file) = isGroupStart g (GroupCall file)
-isLimitStart g (LimitCall file) = isAccepted (limitCycle g file .outcome)
-isLimitStart g (NudgeCall w) = false
+-- where the timed switch of output n, from 0, starts: "an accepted limit cycle or group start"
+unfoldable pub isLimitStart : ℕ → Configuration → Call → Bool
+isLimitStart n g (Step s) = isGroupStart n g (Step s)
+isLimitStart n g (FileCall SetupCycle file) = isGroupStart n g (FileCall SetupCycle file)
+isLimitStart n g (FileCall GroupCycle file) = isGroupStart n g (FileCall GroupCycle file)
+isLimitStart n g (FileCall LimitCycle file) = isAccepted (fileCycle LimitCycle g file .outcome)
+isLimitStart n g (NudgeCall w) = false
 
 -- a call's step, if it is one, put before the steps that came earlier
 abbrev pub withStep : {A : Type 0} → Call → (Sample → A) → List A → List A
 withStep (Step s) what h = what s ∷ h
-withStep (SetupCall file) what h = h
-withStep (GroupCall file) what h = h
-withStep (LimitCall file) what h = h
+withStep (FileCall kind file) what h = h
 withStep (NudgeCall w) what h = h
 
 -- The steps since the last start, each as `what` held at it: `what` gets the calls before the step, and its sample.
 unfoldable pub since : {A : Type 0} → (Configuration → Call → Bool) → (List Call → Sample → A) → Model → List Call → List A
-since starts what m [] = []
-since starts what m (call ∷ l) = cond (starts (configurationOf m l) call) [] (withStep call (what l) (since starts what m l))
+since starts what model [] = []
+since starts what model (call ∷ l) = cond (starts (configurationOf model l) call) [] (withStep call (what l) (since starts what model l))
 
 -- ---- Speed
 
 -- q of a step
 unfoldable pub turnedIn : Model → List Call → Sample → ℕ
-turnedIn m l s = turned (setupInForce m l .reversed) (s .raw)
+turnedIn model l s = turned (setupInForce model l .reversed) (s .raw)
 
 -- "Steps count from the module start.": q of each step since then; the same with the step that comes
 unfoldable pub sinceModuleStart : Model → List Call → List ℕ
-sinceModuleStart m l = since isModuleStart (turnedIn m) m l
+sinceModuleStart model l = since isModuleStart (turnedIn model) model l
 
 abbrev pub upToStep : Model → List Call → Sample → List ℕ
-upToStep m l s = turnedIn m l s ∷ sinceModuleStart m l
+upToStep model l s = turnedIn model l s ∷ sinceModuleStart model l
 
 -- "Movement is ((q − last q + 512) mod 1024) − 512, and 0 on the first step after a module start"
 unfoldable pub movementFrom : List ℕ → ℕ → ℤ
@@ -122,7 +126,12 @@ unfoldable pub updateAt : Bool → List ℕ → Bool
 updateAt fast qs = eqb (length qs % windowSteps fast) 0
 
 unfoldable pub rpmIn : Model → List Call → Sample → ℕ
-rpmIn m l s = rpmAt (setupInForce m l .fast) (upToStep m l s)
+rpmIn model l s = rpmAt (setupInForce model l .fast) (upToStep model l s)
+
+-- what the groups and outputs read of a step not answered 11
+unfoldable pub conditionsIn : Model → List Call → Sample → Conditions
+conditionsIn model l s =
+    conditions (configurationOf model l) s (movementOf (cOf (upToStep model l s))) (rpmIn model l s) (updateAt (setupInForce model l .fast) (upToStep model l s))
 
 -- ---- A group's past
 
@@ -184,12 +193,12 @@ lastTaken (s ∷ h) = cond (s .takes) (some s) (lastTaken h)
 -- Modes 1, 2: "Taking sets the position to the preset in force at that step (travel is the change of Machine Position from there)". So: the preset in
 -- force at the last edge taken plus the travel from there, modulo SF; with no such edge the machine's.
 unfoldable pub presetPosition : ℕ → Option PastStep → MachinePosition → GroupPosition
-presetPosition sf none m = record { 0 = m .0 }
-presetPosition sf (some taken) m = record { 0 = (taken .program .offset + ahead sf (taken .event .machine .0) (m .0)) % sf }
+presetPosition sf none machine = record { 0 = machine .0 }
+presetPosition sf (some taken) machine = record { 0 = (taken .program .offset + ahead sf (taken .event .machine .0) (machine .0)) % sf }
 
 -- "Modes 0, 3, 4, 5: Group Position = (Machine Position + group offset) mod SF."
 unfoldable pub positionFrom : ℕ → Group → Option PastStep → MachinePosition → GroupPosition
-positionFrom sf g taken m = cond (presets (g .mode)) (presetPosition sf taken m) (groupPosition sf (g .offset) m)
+positionFrom sf g taken machine = cond (presets (groupMode g)) (presetPosition sf taken machine) (groupPosition sf (g .offset) machine)
 
 -- Group Position at the end of a moment's step
 unfoldable pub positionAt : List PastStep → GroupPosition
@@ -209,7 +218,7 @@ begins s h =
 -- "An edge is taken if no edge was taken since group start, or a dwell has begun since the last taken one, this step included."
 unfoldable pub takes : GroupStep → List PastStep → Bool
 takes s h =
-    presets (s .program .mode)
+    presets (groupMode (s .program))
     && edge (levelAt h) (s .event .level)
     && (not (exists takesAt h) || begins s h || afterEach beginsAt takesAt h)
 
@@ -241,6 +250,7 @@ countsAt h = firstEdgeAt h && not (stopAt h) && latestDwellSaw qualifiesAt h
 -- Mode 4: an edge of its input fell in its latest dwell.
 -- Mode 5: its latest dwell saw a qualifying step, and no stop came in a later step than the last qualifying step or counted First Cycle edge, whichever of the two is later.
 unfoldable pub openAt : Mode → List PastStep → Bool
+openAt NoMode h = false
 openAt Mode0 h = true
 openAt Mode1 h = true
 openAt Mode2 h = noLater takesAt beginsAt h
@@ -250,44 +260,42 @@ openAt Mode5 h = latestDwellSaw qualifiesAt h && noLater (λ j. qualifiesAt j ||
 
 -- ---- The groups of the card
 
--- what group n, from 0, meets: table 3.1, "group g 1 to 6, .. First Cycle 8; virtual 16 higher"
-unfoldable pub eventIn : Model → List Call → Sample → ℕ → Event
-eventIn m l s n = record {
-  machine = machineAt (configurationOf m l) s;
-  level = levelOf (configurationOf m l) s (groupAt (programmingOf m l) n .kind) n;
-  first = levelOf (configurationOf m l) s (groupAt (programmingOf m l) n .firstcycle) 7;
-  rpm = rpmIn m l s;
-  update = updateAt (setupInForce m l .fast) (upToStep m l s);
+unfoldable pub groupStepIn : Model → ℕ → List Call → Sample → GroupStep
+groupStepIn model n l s = record {
+  sf = scaleFactor (setupInForce model l);
+  program = groupAt (programmingOf model l) n;
+  event = groupEvent (conditionsIn model l s) (groupAt (programmingOf model l) n) n;
 }
 
-unfoldable pub groupStepIn : Model → ℕ → List Call → Sample → GroupStep
-groupStepIn m n l s =
-    record { sf = scaleFactor (setupInForce m l); program = groupAt (programmingOf m l) n; event = eventIn m l s n }
-
 unfoldable pub sinceGroupStart : Model → List Call → ℕ → List GroupStep
-sinceGroupStart m l n = since isGroupStart (groupStepIn m n) m l
+sinceGroupStart model l n = since (isGroupStart n) (groupStepIn model n) model l
 
 -- group n's past with the step that comes
 unfoldable pub groupPast : Model → List Call → Sample → ℕ → List PastStep
-groupPast m l s n = pastOf (groupStepIn m n l s ∷ sinceGroupStart m l n)
+groupPast model l s n = pastOf (groupStepIn model n l s ∷ sinceGroupStart model l n)
 
--- its position, "0 for a group unused", and whether it is open
+-- its position, "0 for a group unused", and whether it is open; the same of the six groups
 unfoldable pub positionIn : Model → List Call → Sample → ℕ → GroupPosition
-positionIn m l s n = cond (groupAt (programmingOf m l) n .used) (positionAt (groupPast m l s n)) (record { 0 = 0 })
+positionIn model l s n = cond (groupAt (programmingOf model l) n .used) (positionAt (groupPast model l s n)) noPosition
 
 unfoldable pub openIn : Model → List Call → Sample → ℕ → Bool
-openIn m l s n = openAt (groupAt (programmingOf m l) n .mode) (groupPast m l s n)
+openIn model l s n = openAt (groupMode (groupAt (programmingOf model l) n)) (groupPast model l s n)
+
+unfoldable pub positionsIn : Model → List Call → Sample → List GroupPosition
+positionsIn model l s = table 6 0 (positionIn model l s)
+
+unfoldable pub opennessIn : Model → List Call → Sample → List Bool
+opennessIn model l s = table 6 0 (openIn model l s)
 
 -- ---- Timed switches
 
 -- the pair of output n, from 0, if it is timed
 unfoldable pub pairIn : Model → ℕ → List Call → Sample → Bool
-pairIn m n l s =
-    pairHolds (scaleFactor (setupInForce m l)) (cOf (upToStep m l s)) (limitOf (programmingOf m l) n) 0
-    (switchPosition (programmingOf m l) (machineAt (configurationOf m l) s) (positionIn m l s) n)
+pairIn model n l s =
+    timedHolds (conditionsIn model l s) (limitOf (programmingOf model l) n) (ofGroup noPosition (positionsIn model l s) (ownerOf (programmingOf model l) n))
 
 unfoldable pub sinceLimitStart : Model → List Call → ℕ → List Bool
-sinceLimitStart m l n = since isLimitStart (pairIn m n) m l
+sinceLimitStart model l n = since (isLimitStart n) (pairIn model n) model l
 
 -- at a moment's step the pair held; "Before the first step after an accepted limit cycle or group start it did not hold."
 unfoldable pub heldAt : List Bool → Bool
@@ -302,61 +310,43 @@ lasts (Pulse q k) h = false
 lasts (Timed t) h = heldUnder (timedSteps t) heldAt h
 
 unfoldable pub lastsIn : Model → List Call → Sample → ℕ → Bool
-lastsIn m l s n = lasts (limitOf (programmingOf m l) n .switch) (pairIn m n l s ∷ sinceLimitStart m l n)
+lastsIn model l s n = lasts (limitSwitch (limitOf (programmingOf model l) n)) (pairIn model n l s ∷ sinceLimitStart model l n)
 
 -- ---- The answer
 
--- what the output rule reads of the step
-unfoldable pub expectedConditions : Model → List Call → Sample → Conditions
-expectedConditions m l s = record {
-  c = cOf (upToStep m l s);
-  md1 = detects (setupInForce m l .md1) (rpmIn m l s);
-  md2 = detects (setupInForce m l .md2) (rpmIn m l s);
-  machine = machineAt (configurationOf m l) s;
-  position = positionIn m l s;
-  isopen = openIn m l s;
-  level = levelOf (configurationOf m l) s;
-  lasting = lastsIn m l s;
-}
+-- of output n, from 0: "else no fault, the switch holds, the group is open, and what is ANDed .. holds"; 11: "unforced outputs off"
+unfoldable pub ruleIn : Model → List Call → Sample → ℕ → Bool
+ruleIn model l s n = ruleAt (programmingOf model l) (conditionsIn model l s) (positionsIn model l s) (opennessIn model l s) (lastsIn model l s) n
 
--- "else no fault, the switch holds, the group is open, and what is ANDed .. holds"; 11: "unforced outputs off"
-unfoldable pub expectedRule : Model → List Call → Sample → ℕ → Bool
-expectedRule m l s n = sound (configurationOf m l) s && outputRule (programmingOf m l) (expectedConditions m l s) n
-
--- an output, from 0: "forced off, no; forced on, yes; else .."; "a missing one never"
-unfoldable pub expectedOutput : Model → List Call → Sample → ℕ → Bool
-expectedOutput m l s n = outputOn m s (expectedRule m l s) n
+-- the words of outputs: "forced off, no; forced on, yes; else .."; "a missing one never"
+unfoldable pub outputsIn : Model → List Call → Sample → OutputWords
+outputsIn model l s = outputWords model s (λ n. sound (configurationOf model l) s && ruleIn model l s n)
 
 -- "the Machine Position of the last step since power-up not answered 11, else 0"
 unfoldable pub lastPosition : Model → List Call → MachinePosition
-lastPosition m [] = record { 0 = 0 }
-lastPosition m (Step s ∷ l) = cond (sound (configurationOf m l) s) (machineAt (configurationOf m l) s) (lastPosition m l)
-lastPosition m (SetupCall file ∷ l) = lastPosition m l
-lastPosition m (GroupCall file ∷ l) = lastPosition m l
-lastPosition m (LimitCall file ∷ l) = lastPosition m l
-lastPosition m (NudgeCall w ∷ l) = lastPosition m l
+lastPosition model [] = record { 0 = 0 }
+lastPosition model (Step s ∷ l) = cond (sound (configurationOf model l) s) (machineAt (configurationOf model l) s) (lastPosition model l)
+lastPosition model (FileCall kind file ∷ l) = lastPosition model l
+lastPosition model (NudgeCall w ∷ l) = lastPosition model l
 
 -- the virtual outputs of "the previous step (all off before the first since power-up)"
 unfoldable pub previousVirtuals : Model → List Call → ℕ
-previousVirtuals m [] = 0
-previousVirtuals m (Step s ∷ l) = wordOf 16 (expectedOutput m l s)
-previousVirtuals m (SetupCall file ∷ l) = previousVirtuals m l
-previousVirtuals m (GroupCall file ∷ l) = previousVirtuals m l
-previousVirtuals m (LimitCall file ∷ l) = previousVirtuals m l
-previousVirtuals m (NudgeCall w ∷ l) = previousVirtuals m l
+previousVirtuals model [] = 0
+previousVirtuals model (Step s ∷ l) = outputsIn model l s .virtuals
+previousVirtuals model (FileCall kind file ∷ l) = previousVirtuals model l
+previousVirtuals model (NudgeCall w ∷ l) = previousVirtuals model l
 
 -- what a step after the calls `l` answers
 unfoldable pub expectedAnswer : Model → List Call → Sample → Answer
-expectedAnswer m l s =
-    cond (sound (configurationOf m l) s)
-    (soundAnswer (configurationOf m l) s (rpmIn m l s) (previousVirtuals m l) (expectedOutput m l s))
-    (faultAnswer (configurationOf m l) (lastPosition m l) (previousVirtuals m l) (expectedOutput m l s))
+expectedAnswer model l s =
+    answerOf (setupInForce model l) (not (sound (configurationOf model l) s))
+    (cond (sound (configurationOf model l) s) (conditionsIn model l s) (faultConditions (configurationOf model l) s (lastPosition model l)))
+    (previousVirtuals model l)
+    (outputsIn model l s)
 
 -- what the steps of a list of calls in the order of time answer; `past` are the calls before it, the latest first
 unfoldable pub expectedAnswers : Model → List Call → List Call → List Answer
-expectedAnswers m past [] = []
-expectedAnswers m past (Step s ∷ calls) = expectedAnswer m past s ∷ expectedAnswers m (Step s ∷ past) calls
-expectedAnswers m past (SetupCall file ∷ calls) = expectedAnswers m (SetupCall file ∷ past) calls
-expectedAnswers m past (GroupCall file ∷ calls) = expectedAnswers m (GroupCall file ∷ past) calls
-expectedAnswers m past (LimitCall file ∷ calls) = expectedAnswers m (LimitCall file ∷ past) calls
-expectedAnswers m past (NudgeCall w ∷ calls) = expectedAnswers m (NudgeCall w ∷ past) calls
+expectedAnswers model past [] = []
+expectedAnswers model past (Step s ∷ calls) = expectedAnswer model past s ∷ expectedAnswers model (Step s ∷ past) calls
+expectedAnswers model past (FileCall kind file ∷ calls) = expectedAnswers model (FileCall kind file ∷ past) calls
+expectedAnswers model past (NudgeCall w ∷ calls) = expectedAnswers model (NudgeCall w ∷ past) calls

@@ -1,48 +1,29 @@
--- 01, "Module and sample" and "Speed": inputs, positions, movement, rpm, tachometer, detectors. No past.
+-- 01, "Module and sample" and "Speed": inputs, positions, movement, rpm, tachometer, detectors, and what a step's groups and outputs read. No past.
 -- Assumes nothing.
-use Prim.Native.Nat.{ℕ, zero, suc, _+_, _*_, _/_, _%_, _^_}
+use Prim.Native.Nat.{ℕ, suc, _+_, _*_, _/_, _%_, _^_}
 use mathlib.Core.Bool.{Bool, true, false, cond, not, _&&_, _||_, Bool·beq}
 use lib.Dec.{ltb, leb, eqb}
-use lib.IntN.{ℤ, pos, negℤ, natAbs, subℕ, _+ℤ_, _-ℤ_}
+use lib.IntN.{ℤ, pos, negsuc, negℤ, natAbs, subℕ, _+ℤ_, _-ℤ_}
 use Rattle.rules.specs.declared.MachinePosition.{MachinePosition}
-use Rattle.rules.specs.declared.Model.{Model}
-use Rattle.rules.specs.declared.Model.the-variants.{M8511, M8512, M8513}
-use Rattle.rules.specs.declared.IoType.{IoType}
-use Rattle.rules.specs.declared.IoType.the-variants.{Real, Virtual}
-use Rattle.rules.specs.declared.DecimalCode.{DecimalCode}
-use Rattle.rules.specs.declared.DecimalCode.the-variants.{Code0, Code1, Code2, Code3}
 use Rattle.rules.specs.declared.Detector.{Detector}
 use Rattle.rules.specs.declared.Scalars.{Scalars}
 use Rattle.rules.specs.declared.Setup.{Setup}
 use Rattle.rules.specs.declared.Configuration.{Configuration}
-use Rattle.rules.specs.declared.Travel.{Travel}
 use Rattle.rules.specs.declared.Sample.{Sample}
-use Rattle.rules.specs.Words.{bit, modulo, roundHalfUp, forced}
-
--- "0, 8 or 16 real inputs and outputs"; "All have 16 virtual ones"
-unfoldable pub realCount : Model → ℕ
-realCount M8511 = 0
-realCount M8512 = 8
-realCount M8513 = 16
-
-unfoldable pub ioCount : Model → IoType → ℕ
-ioCount m Real = realCount m
-ioCount m Virtual = 16
+use Rattle.rules.specs.declared.Model.{Model}
+use Rattle.rules.specs.declared.IoType.{IoType}
+use Rattle.rules.specs.declared.IoType.the-variants.{Real, Virtual}
+use Rattle.rules.specs.declared.Movement.{Movement}
+use Rattle.rules.specs.declared.Conditions.{Conditions}
+use Rattle.rules.specs.Words.{bit, wordOf, modulo, roundHalfUp, forced}
+use Rattle.rules.specs.Variants.{modelIn, realCount, codeOf, codeNumber}
 
 -- "A real input is active where its current equals its active-state bit; the force is applied after. A missing real input is inactive, forced or not."
 -- Inputs are counted from 0 here, so input 1 is n = 0 of type Real and input 17 n = 0 of type Virtual.
 unfoldable pub realInput : Model → Setup → Sample → ℕ → Bool
-realInput m u s n =
-    ltb n (realCount m)
+realInput model u s n =
+    ltb n (realCount model)
     && forced (bit (s .inputsoff) n) (bit (s .inputson) n) (Bool·beq (bit (s .currents) n) (bit (u .states) n))
-
-unfoldable pub inputLevel : Model → Setup → Sample → IoType → ℕ → Bool
-inputLevel m u s Real n = realInput m u s n
-inputLevel m u s Virtual n = bit (s .virtuals) n
-
--- an input's level in a step
-abbrev pub levelOf : Configuration → Sample → IoType → ℕ → Bool
-levelOf g s t n = inputLevel (g .model) (g .programming .setup) s t n
 
 -- SF, the scale factor
 abbrev pub scaleFactor : Setup → ℕ
@@ -90,19 +71,13 @@ isStop update rpm = update && eqb rpm 0
 abbrev pub divisor : Scalars → ℕ
 divisor k = k .divider + 1
 
-abbrev pub codeNumber : DecimalCode → ℕ
-codeNumber Code0 = 0
-codeNumber Code1 = 1
-codeNumber Code2 = 2
-codeNumber Code3 = 3
-
 -- "Tach = rpm × multiplier / (divisor × 10^code), rounded half up from the exact quotient"
 unfoldable pub tachValue : Scalars → ℕ → ℕ
-tachValue k rpm = roundHalfUp (rpm * k .multiplier) (divisor k * 10 ^ codeNumber (k .code))
+tachValue k rpm = roundHalfUp (rpm * k .multiplier) (divisor k * 10 ^ codeNumber (codeOf (k .code)))
 
 -- "above 32767 it reads 32767 with TachOv set"
-unfoldable pub tachReading : Scalars → ℕ → ℕ
-tachReading k rpm = cond (ltb 32767 (tachValue k rpm)) 32767 (tachValue k rpm)
+unfoldable pub tachShown : Scalars → ℕ → ℕ
+tachShown k rpm = cond (ltb 32767 (tachValue k rpm)) 32767 (tachValue k rpm)
 
 unfoldable pub tachOverflow : Scalars → ℕ → Bool
 tachOverflow k rpm = ltb 32767 (tachValue k rpm)
@@ -113,9 +88,62 @@ detects d rpm =
     not (eqb (d .low) 0 && eqb (d .high) 0)
     && cond (leb (d .low) (d .high)) (leb (d .low) rpm && leb rpm (d .high)) (leb rpm (d .high) || leb (d .low) rpm)
 
--- the number that a sign and a magnitude stand for
+-- the number that a sign and a magnitude stand for, and the other way
 abbrev pub signed : Bool → ℕ → ℤ
 signed negative n = cond negative (negℤ (pos n)) (pos n)
 
-abbrev pub travelValue : Travel → ℤ
-travelValue t = signed (t .negative) (t .counts)
+abbrev pub movementValue : Movement → ℤ
+movementValue t = signed (t .negative) (t .counts)
+
+abbrev pub movementOf : ℤ → Movement
+movementOf (pos n) = record { negative = false; counts = n }
+movementOf (negsuc n) = record { negative = true; counts = suc n }
+
+-- ---- What a step's groups, outputs and answer read
+
+-- the word of the active real inputs; a virtual input's level is its bit
+unfoldable pub realInputs : Configuration → Sample → ℕ
+realInputs g s = wordOf 0 (realInput (modelIn g) (g .programming .setup) s)
+
+-- of a step at which Machine Position is `machine`, c is `c`, rpm is `rpm` and was updated or not, and the detectors are as given
+abbrev pub conditionsWith : Configuration → Sample → MachinePosition → Movement → ℕ → Bool → Bool → Bool → Conditions
+conditionsWith g s machine c rpm update md1 md2 = record {
+  top = g .programming .setup .top;
+  independent = g .programming .setup .independent;
+  machine = machine;
+  real = realInputs g s;
+  virtuals = s .virtuals;
+  c = c;
+  rpm = rpm;
+  update = update;
+  md1 = md1;
+  md2 = md2;
+}
+
+-- of a step not answered 11, where c is `c` and rpm is `rpm` and was updated or not
+unfoldable pub conditions : Configuration → Sample → Movement → ℕ → Bool → Conditions
+conditions g s c rpm update =
+    conditionsWith g s (machineAt g s) c rpm update (detects (g .programming .setup .md1) rpm) (detects (g .programming .setup .md2) rpm)
+
+-- 11: "reports the Machine Position of the last step since power-up not answered 11, else 0; rpm, tach and TachOv 0; detectors .. off"
+unfoldable pub faultConditions : Configuration → Sample → MachinePosition → Conditions
+faultConditions g s last = conditionsWith g s last (movementOf (pos 0)) 0 false false false
+
+-- SF in force
+abbrev pub scale : Conditions → ℕ
+scale w = w .top + 1
+
+-- the level of an input of a type, counted from 0
+abbrev pub level : Conditions → IoType → ℕ → Bool
+level w Real n = bit (w .real) n
+level w Virtual n = bit (w .virtuals) n
+
+-- table 3.1: "group g 1 to 6, .. First Cycle 8; virtual 16 higher"; LS Enable is input 7 or 23
+abbrev pub groupInput : ℕ → ℕ
+groupInput n = n
+
+abbrev pub enableInput : ℕ
+enableInput = 6
+
+abbrev pub firstCycleInput : ℕ
+firstCycleInput = 7

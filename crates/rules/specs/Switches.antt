@@ -1,13 +1,12 @@
 -- 01, "Limit switches": advances, the three types of switch, the output rule. No past.
 -- Assumes nothing.
-use Prim.Native.Nat.{ℕ, zero, suc, _+_, _-_, _*_, _/_}
+use Prim.Native.Nat.{ℕ, _+_, _-_, _*_, _/_}
 use mathlib.Core.Bool.{Bool, true, false, cond, not, _&&_, _||_}
-use mathlib.Core.List.{List, [], _∷_}
+use mathlib.Core.List.{List, []}
 use lib.ListN.{getD, replicate}
 use lib.Dec.{ltb, leb, eqb}
 use lib.IntN.{ℤ, pos, _-ℤ_, _*ℤ_}
 use lib.Signed.{quotZ}
-use Rattle.rules.specs.declared.MachinePosition.{MachinePosition}
 use Rattle.rules.specs.declared.GroupPosition.{GroupPosition}
 use Rattle.rules.specs.declared.Position.{Position}
 use Rattle.rules.specs.declared.Position.the-variants.{OfMachine, OfGroup}
@@ -17,17 +16,21 @@ use Rattle.rules.specs.declared.IoType.the-variants.{Real, Virtual}
 use Rattle.rules.specs.declared.Switch.{Switch}
 use Rattle.rules.specs.declared.Switch.the-variants.{Unprogrammed, Normal, Pulse, Timed}
 use Rattle.rules.specs.declared.Anded.{Anded}
-use Rattle.rules.specs.declared.Anded.the-variants.{Neither, First, Second}
+use Rattle.rules.specs.declared.Anded.the-variants.{Never, Neither, First, Second}
+use Rattle.rules.specs.declared.Action.{Action}
 use Rattle.rules.specs.declared.Advance.{Advance}
 use Rattle.rules.specs.declared.Limit.{Limit}
 use Rattle.rules.specs.declared.Setup.{Setup}
 use Rattle.rules.specs.declared.Programming.{Programming}
-use Rattle.rules.specs.declared.Configuration.{Configuration}
 use Rattle.rules.specs.declared.Answer.{Answer}
 use Rattle.rules.specs.declared.Sample.{Sample}
+use Rattle.rules.specs.declared.Conditions.{Conditions}
+use Rattle.rules.specs.declared.OutputWords.{OutputWords}
 use Rattle.rules.specs.Words.{bit, wordOf, modulo, someOf, differing, forced}
-use Rattle.rules.specs.Motion.{realCount, scaleFactor, machineAt, tachReading, tachOverflow, detects, signed}
-use Rattle.rules.specs.Groups.{ahead, holds}
+use Rattle.rules.specs.Variants.{realCount, virtualCount, limitSwitch, andedOf}
+use Rattle.rules.specs.Counts.{ahead, holds, usedPair}
+use Rattle.rules.specs.Motion.{tachShown, tachOverflow, signed, movementValue, scale, level, enableInput}
+use Rattle.rules.specs.Groups.{noPosition, ofGroup}
 
 -- a, "the signed advance in tenths of a ms"
 abbrev pub advanceValue : Advance → ℤ
@@ -51,10 +54,6 @@ onSetpoint l k = getD (l .setpoints) (2 * k) 0
 
 abbrev pub offSetpoint : Limit → ℕ → ℕ
 offSetpoint l k = getD (l .setpoints) (2 * k + 1) 0
-
--- "0/0 is unused"
-abbrev pub usedPair : ℕ → ℕ → Bool
-usedPair on off = not (eqb on 0 && eqb off 0)
 
 -- pair k of a switch, its setpoints moved by their advances, holds
 unfoldable pub pairHolds : ℕ → ℤ → Limit → ℕ → Position → Bool
@@ -97,28 +96,19 @@ typeOf n = cond (ltb n 16) Real Virtual
 
 -- an output that the module has; the others are missing
 unfoldable pub present : Model → ℕ → Bool
-present m n = leb 16 n || ltb n (realCount m)
+present model n = cond (ltb n 16) (ltb n (realCount model)) (ltb (n - 16) (virtualCount model))
 
--- What the output rule reads of a step: c, the detectors, Machine Position, each group's position and openness (groups from 0),
--- each real and virtual input's level (from 0), and of each timed output whether its time lasts.
-pub record Conditions : Type 0 where
-  pub c : ℤ
-  pub md1 : Bool
-  pub md2 : Bool
-  pub machine : MachinePosition
-  pub position : ℕ → GroupPosition
-  pub isopen : ℕ → Bool
-  pub level : IoType → ℕ → Bool
-  pub lasting : ℕ → Bool
+abbrev pub unprogrammed : Action
+unprogrammed = record { kind = 0; quantity = 0; count = 0; duration = 0 }
 
 abbrev pub noLimit : Limit
 noLimit =
-    record { switch = Unprogrammed; enable = false; detector = Neither; onadvance = record { negative = false; tenths = 0 }; offadvance = record { negative = false; tenths = 0 }; setpoints = replicate 16 0 }
+    record { action = unprogrammed; enable = false; detector = 0; onadvance = record { negative = false; tenths = 0 }; offadvance = record { negative = false; tenths = 0 }; setpoints = replicate 16 0 }
 
 -- an element past the end of an array of limits
 abbrev pub pastLimits : Limit
 pastLimits =
-    record { switch = Unprogrammed; enable = false; detector = Neither; onadvance = record { negative = false; tenths = 0 }; offadvance = record { negative = false; tenths = 0 }; setpoints = [] }
+    record { action = unprogrammed; enable = false; detector = 0; onadvance = record { negative = false; tenths = 0 }; offadvance = record { negative = false; tenths = 0 }; setpoints = [] }
 
 abbrev pub limitOf : Programming → ℕ → Limit
 limitOf p n = getD (p .limits) n pastLimits
@@ -127,34 +117,42 @@ limitOf p n = getD (p .limits) n pastLimits
 abbrev pub ownerOf : Programming → ℕ → ℕ
 ownerOf p n = getD (p .owners) n 0
 
--- "Switches read Group Position, or Machine Position in Independent Mode."
-unfoldable pub switchPosition : Programming → MachinePosition → (ℕ → GroupPosition) → ℕ → Position
-switchPosition p machine position n = cond (p .setup .independent) (OfMachine machine) (OfGroup (position (ownerOf p n - 1)))
+-- "Switches read Group Position, or Machine Position in Independent Mode.": where the output's group is at `position`
+unfoldable pub switchPosition : Conditions → GroupPosition → Position
+switchPosition w position = cond (w .independent) (OfMachine (w .machine)) (OfGroup position)
 
 -- "the group is open"; "In Independent Mode there is no group ..; a real output needs its own real input active."
-unfoldable pub admitted : Programming → Conditions → ℕ → Bool
-admitted p x n =
-    cond (p .setup .independent)
-    (cond (ltb n 16) (x .level Real n) true)
-    (not (eqb (ownerOf p n) 0) && x .isopen (ownerOf p n - 1))
+unfoldable pub admitted : Conditions → Bool → ℕ → Bool
+admitted w isopen n = cond (w .independent) (cond (ltb n 16) (level w Real n) true) isopen
 
--- "what is ANDed (LS Enable of its kind, MD1, MD2) holds"; "In Independent Mode .. LS Enable is ignored". LS Enable is input 7 or 23.
+-- "what is ANDed (LS Enable of its kind, MD1, MD2) holds"; "In Independent Mode .. LS Enable is ignored".
+unfoldable pub enableHolds : Conditions → Bool → ℕ → Bool
+enableHolds w enable n = w .independent || not enable || level w (typeOf n) enableInput
+
 abbrev pub detectorHolds : Anded → Conditions → Bool
-detectorHolds Neither x = true
-detectorHolds First x = x .md1
-detectorHolds Second x = x .md2
+detectorHolds Never w = false
+detectorHolds Neither w = true
+detectorHolds First w = w .md1
+detectorHolds Second w = w .md2
 
-unfoldable pub andsHold : Programming → Conditions → ℕ → Bool
-andsHold p x n =
-    (p .setup .independent || not (limitOf p n .enable) || x .level (typeOf n) 6)
-    && detectorHolds (limitOf p n .detector) x
+-- "the group is open, and what is ANDed .. holds"
+unfoldable pub passes : Conditions → Limit → Bool → ℕ → Bool
+passes w l isopen n = admitted w isopen n && (enableHolds w (l .enable) n && detectorHolds (andedOf (l .detector)) w)
 
--- "the switch holds, the group is open, and what is ANDed .. holds"
-unfoldable pub outputRule : Programming → Conditions → ℕ → Bool
-outputRule p x n =
-    switchHolds (scaleFactor (p .setup)) (x .c) (limitOf p n) (limitOf p n .switch) (switchPosition p (x .machine) (x .position) n) (x .lasting n)
-    && admitted p x n
-    && andsHold p x n
+-- "the switch holds, the group is open, and what is ANDed .. holds", of output n with the program l, whose group is at `position` and open or not, and of
+-- whose timed switch the time lasts or not
+unfoldable pub outputRule : Conditions → Limit → GroupPosition → Bool → Bool → ℕ → Bool
+outputRule w l position isopen lasting n =
+    switchHolds (scale w) (movementValue (w .c)) l (limitSwitch l) (switchPosition w position) lasting && passes w l isopen n
+
+-- the same of output n of a card, where the six groups' positions and openness are these
+unfoldable pub ruleAt : Programming → Conditions → List GroupPosition → List Bool → (ℕ → Bool) → ℕ → Bool
+ruleAt p w positions isopen lasting n =
+    outputRule w (limitOf p n) (ofGroup noPosition positions (ownerOf p n)) (ofGroup false isopen (ownerOf p n)) (lasting n) n
+
+-- the pair of a switch, if it is timed
+unfoldable pub timedHolds : Conditions → Limit → GroupPosition → Bool
+timedHolds w l position = pairHolds (scale w) (movementValue (w .c)) l 0 (switchPosition w position)
 
 -- the forces of an output
 abbrev pub forcedOff : Sample → ℕ → Bool
@@ -165,40 +163,29 @@ forcedOn s n = cond (ltb n 16) (bit (s .realon) n) (bit (s .virtualon) (n - 16))
 
 -- "Output rule: forced off, no; forced on, yes; else .."; "An unprogrammed output is on only by force; a missing one never."
 unfoldable pub outputOn : Model → Sample → (ℕ → Bool) → ℕ → Bool
-outputOn m s rule n = present m n && forced (forcedOff s n) (forcedOn s n) (rule n)
+outputOn model s rule n = present model n && forced (forcedOff s n) (forcedOn s n) (rule n)
 
--- ---- What a step answers, given rpm, the virtual outputs of the previous step and the outputs of this one
+-- ---- What a step answers, given what it read, the virtual outputs of the previous step and the outputs of this one
 
 -- "with SLCINT set, how many virtual outputs changed since the previous step .., else 0"
 unfoldable pub changedCount : Setup → ℕ → ℕ → ℕ
 changedCount u before after = cond (u .interrupt) (differing before after) 0
 
--- "A step answers Machine Position, rpm, tach, TachOv, detectors, both output words and .. how many virtual outputs changed"
-unfoldable pub soundAnswer : Configuration → Sample → ℕ → ℕ → (ℕ → Bool) → Answer
-soundAnswer g s rpm before output = record {
-  refused = false;
-  position = machineAt g s;
-  rpm = rpm;
-  tach = tachReading (g .programming .setup .scalars) rpm;
-  overflow = tachOverflow (g .programming .setup .scalars) rpm;
-  md1 = detects (g .programming .setup .md1) rpm;
-  md2 = detects (g .programming .setup .md2) rpm;
-  real = wordOf 0 output;
-  virtuals = wordOf 16 output;
-  changed = changedCount (g .programming .setup) before (wordOf 16 output);
-}
+-- the two words of outputs, where `rule` says of each output whether it is on before the forces
+unfoldable pub outputWords : Model → Sample → (ℕ → Bool) → OutputWords
+outputWords model s rule = record { real = wordOf 0 (outputOn model s rule); virtuals = wordOf 16 (outputOn model s rule) }
 
--- 11: "reports the Machine Position of the last step since power-up not answered 11, else 0; rpm, tach and TachOv 0; detectors and unforced outputs off"
-unfoldable pub faultAnswer : Configuration → MachinePosition → ℕ → (ℕ → Bool) → Answer
-faultAnswer g last before output = record {
-  refused = true;
-  position = last;
-  rpm = 0;
-  tach = 0;
-  overflow = false;
-  md1 = false;
-  md2 = false;
-  real = wordOf 0 output;
-  virtuals = wordOf 16 output;
-  changed = changedCount (g .programming .setup) before (wordOf 16 output);
+-- "A step answers Machine Position, rpm, tach, TachOv, detectors, both output words and .. how many virtual outputs changed"; rpm 0 gives tach and TachOv 0
+unfoldable pub answerOf : Setup → Bool → Conditions → ℕ → OutputWords → Answer
+answerOf u refused w before outputs = record {
+  refused = refused;
+  position = w .machine;
+  rpm = w .rpm;
+  tach = tachShown (u .scalars) (w .rpm);
+  overflow = tachOverflow (u .scalars) (w .rpm);
+  md1 = w .md1;
+  md2 = w .md2;
+  real = outputs .real;
+  virtuals = outputs .virtuals;
+  changed = changedCount u before (outputs .virtuals);
 }

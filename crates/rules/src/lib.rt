@@ -1,10 +1,13 @@
-// The card's types: its programming, its state, what a step takes and what the calls answer. Every value of every type is harmless: no call
-// has a `requires`. The rules over them are in specs/; the only code here is power-up, with the defaults as constants of the module type.
+// The card's types: its programming, its state, what a step takes and what the calls answer. What the module stores is plain numbers, so that a host
+// lends it as it stands; `variants` reads them as cases. Every value of every type is harmless: no call has a `requires`. The rules over them are in
+// specs/; the only code here is that, the numbers of refusals, and power-up.
+pub mod numbers;
+mod power_up;
+pub mod variants;
 
 ghost use mathlib.Core.Path.{_≡_};
-ghost use Rattle.rules.specs.Motion.{realCount};
-ghost use Rattle.rules.specs.Programming.{defaultSetup, noPrograms};
-ghost use Rattle.rules.specs.Card.{moduleStart, freshModule, poweredUp};
+ghost use Rattle.rules.specs.SetupWords.{noPrograms};
+ghost use Rattle.rules.specs.Card.{moduleStart};
 
 // Machine Position, in counts of a turn.
 #[repr(C)]
@@ -20,24 +23,13 @@ pub enum Position {
     OfGroup(GroupPosition),
 }
 
-// The module: an 8511 has no real inputs and outputs, an 8512 eight, an 8513 sixteen.
+// The module: an 8511 has no real inputs and outputs, an 8512 eight, an 8513 sixteen; all have sixteen virtual ones. NoModule, which any other number
+// reads as, has none of either.
 pub enum Model {
+    NoModule,
     M8511,
     M8512,
     M8513,
-}
-
-impl Model {
-    // Its real inputs, and its real outputs.
-    pub fn real_count(m: Model) -> u16
-        ensures { λ r. ⌜ r ≡ realCount m ⌝ }
-    {
-        match m {
-            Model::M8511 => 0,
-            Model::M8512 => 8,
-            Model::M8513 => 16,
-        }
-    }
 }
 
 // The type of an input or output.
@@ -54,8 +46,9 @@ pub enum DecimalCode {
     Code3,
 }
 
-// A group's operating mode.
+// A group's operating mode. NoMode, which any other number reads as, is never open.
 pub enum Mode {
+    NoMode,
     Mode0,
     Mode1,
     Mode2,
@@ -71,14 +64,16 @@ pub struct Detector {
     pub high: u16,
 }
 
-// The tachometer's scalars; `divider` is the divisor less one, so that no value divides by 0.
+// The tachometer's scalars; `divider` is the divisor less one, so that no value divides by 0. `code` is the decimal code, 0 to 3.
+#[repr(C)]
 pub struct Scalars {
     pub multiplier: u16,
     pub divider: u16,
-    pub code: DecimalCode,
+    pub code: u16,
 }
 
 // The setup in force. `top` is the scale factor less one; `reversed` is CDir, `fast` TResp, `interrupt` SLCINT, `independent` MType.
+#[repr(C)]
 pub struct Setup {
     pub top: u16,
     pub preset: u16,
@@ -100,12 +95,13 @@ pub struct Pair {
     pub off: u16,
 }
 
-// A group's program: `kind` is GPTyp, `firstcycle` FCITyp, `dwell` the Group Channel, `offset` the Group Offset / Preset.
+// A group's program: `isvirtual` is GPTyp, `firstvirtual` FCITyp, `mode` the mode's number, `dwell` the Group Channel, `offset` the Group Offset / Preset.
+#[repr(C)]
 pub struct Group {
     pub used: bool,
-    pub kind: IoType,
-    pub firstcycle: IoType,
-    pub mode: Mode,
+    pub isvirtual: bool,
+    pub firstvirtual: bool,
+    pub mode: u16,
     pub quantity: u16,
     pub dwell: Pair,
     pub offset: u16,
@@ -119,8 +115,19 @@ pub enum Switch {
     Timed(u16),
 }
 
-// The motion detector that an output is ANDed with.
+// The type of a limit switch as it is stored: `kind` 1 normal, 2 pulse with the quantity Q and the ON count K, 3 timed with the duration T; any other
+// is unprogrammed.
+#[repr(C)]
+pub struct Action {
+    pub kind: u16,
+    pub quantity: u16,
+    pub count: u16,
+    pub duration: u16,
+}
+
+// The motion detector that an output is ANDed with. Never, which a number over 2 reads as, never holds.
 pub enum Anded {
+    Never,
     Neither,
     First,
     Second,
@@ -133,17 +140,20 @@ pub struct Advance {
     pub tenths: u16,
 }
 
-// A limit switch's program: `enable` is ANDing with LS Enable; setpoints are ON 1, OFF 1, ON 2, OFF 2 and so on.
+// A limit switch's program: `enable` is ANDing with LS Enable, `detector` the number of the motion detector, 0 for neither; setpoints are ON 1, OFF 1,
+// ON 2, OFF 2 and so on.
+#[repr(C)]
 pub struct Limit {
-    pub switch: Switch,
+    pub action: Action,
     pub enable: bool,
-    pub detector: Anded,
+    pub detector: u16,
     pub onadvance: Advance,
     pub offadvance: Advance,
     pub setpoints: [u16; 16],
 }
 
-// The programming in force. `owners` has for each of the 32 outputs the number of the group that it was dealt to, 0 for none.
+// The programming in force. `owners` has for each of the 32 outputs the number of the group that it was dealt to; 0 or over 6 is none.
+#[repr(C)]
 pub struct Programming {
     pub setup: Setup,
     pub groups: [Group; 6],
@@ -169,9 +179,11 @@ pub struct Acknowledges {
     pub nudge: bool,
 }
 
-// What the calls' arguments alone decide. `ignored` is MsgIgn; `raw` is that of the last step since power-up that was not answered 11.
+// What the calls' arguments alone decide. `model` is the module's number, `ignored` MsgIgn; `raw` is that of the last step since power-up that was
+// not answered 11.
+#[repr(C)]
 pub struct Configuration {
-    pub model: Model,
+    pub model: u16,
     pub programming: Programming,
     pub errors: Errors,
     pub acknowledges: Acknowledges,
@@ -180,10 +192,11 @@ pub struct Configuration {
     pub raw: u16,
 }
 
-// q of the previous step since the module start.
-pub enum Last {
-    NoStep,
-    At(u16),
+// q of the previous step since the module start, where there was one.
+#[repr(C)]
+pub struct Last {
+    pub stepped: bool,
+    pub at: u16,
 }
 
 // A window of movements: the steps since its last update, and the sum of their movements, 512 added to each.
@@ -193,19 +206,20 @@ pub struct Window {
     pub sum: u32,
 }
 
-// A signed count, as a sign and a magnitude.
+// A sum of movements, as a sign and a magnitude.
 #[repr(C)]
-pub struct Travel {
+pub struct Movement {
     pub negative: bool,
     pub counts: u32,
 }
 
 // The speed: the windows of c and of C, c, and rpm.
+#[repr(C)]
 pub struct Speed {
     pub last: Last,
     pub short: Window,
     pub long: Window,
-    pub travel: Travel,
+    pub c: Movement,
     pub rpm: u32,
 }
 
@@ -230,17 +244,30 @@ pub struct TimedState {
     pub left: u32,
 }
 
-// What steps make. `positions` are the Group Positions that the last step left; no start resets `position`, the Machine Position of the last
-// step since power-up not answered 11, and `virtuals`, the virtual outputs of the last step.
-pub struct State {
+// What a start resets: a module start all of it. `positions` are the Group Positions that the last step left.
+#[repr(C)]
+pub struct SinceStart {
     pub speed: Speed,
     pub groups: [GroupState; 6],
     pub positions: [GroupPosition; 6],
     pub timed: [TimedState; 32],
+}
+
+// What runs on since power-up: the Machine Position of the last step not answered 11, and the virtual outputs of the last step.
+#[repr(C)]
+pub struct Kept {
     pub position: MachinePosition,
     pub virtuals: u16,
 }
 
+// What steps make.
+#[repr(C)]
+pub struct State {
+    pub since: SinceStart,
+    pub kept: Kept,
+}
+
+#[repr(C)]
 pub struct Module {
     pub configuration: Configuration,
     pub state: State,
@@ -260,6 +287,21 @@ pub struct Sample {
     pub virtualoff: u16,
 }
 
+// What the groups, the outputs and the answer read of a step: the scale factor less one and MType in force, Machine Position, the words of the active
+// inputs after the forces, c, rpm, whether rpm was updated, and the motion detectors.
+pub struct Conditions {
+    pub top: u16,
+    pub independent: bool,
+    pub machine: MachinePosition,
+    pub real: u16,
+    pub virtuals: u16,
+    pub c: Movement,
+    pub rpm: u32,
+    pub update: bool,
+    pub md1: bool,
+    pub md2: bool,
+}
+
 // What a group meets in a step: Machine Position, its input's level, its First Cycle Input's level, rpm, and whether rpm was updated.
 pub struct Event {
     pub machine: MachinePosition,
@@ -269,15 +311,20 @@ pub struct Event {
     pub update: bool,
 }
 
-// The kinds of programming cycle.
-pub enum Cycle {
+// The programming cycles that take a file.
+pub enum FileCycle {
     SetupCycle,
     GroupCycle,
     LimitCycle,
+}
+
+// The programming cycles.
+pub enum Cycle {
+    OfFile(FileCycle),
     NudgeCycle,
 }
 
-// Why a call is refused; specs/Programming.antt gives each its number.
+// Why a call is refused; `numbers` gives each its number.
 pub enum Refusal {
     M0Length,
     M1Length,
@@ -300,13 +347,13 @@ pub enum Outcome {
 }
 
 // A configuration after a programming cycle, with what the cycle answers.
-pub struct Decided {
+pub struct Decision {
     pub configuration: Configuration,
     pub outcome: Outcome,
 }
 
 // What power-up and a programming cycle answer, with the module after.
-pub struct Programmed {
+pub struct CycleResult {
     pub card: Module,
     pub outcome: Outcome,
 }
@@ -326,7 +373,14 @@ pub struct Answer {
     pub changed: u16,
 }
 
-pub struct Stepped {
+// The two words of outputs that a step answers.
+pub struct OutputWords {
+    pub real: u16,
+    pub virtuals: u16,
+}
+
+// A step's answer, with the module after.
+pub struct StepResult {
     pub card: Module,
     pub answer: Answer,
 }
@@ -334,9 +388,9 @@ pub struct Stepped {
 impl Group {
     pub const NONE: Group = Group {
         used: false,
-        kind: IoType::Real,
-        firstcycle: IoType::Real,
-        mode: Mode::Mode0,
+        isvirtual: false,
+        firstvirtual: false,
+        mode: 0,
         quantity: 0,
         dwell: Pair { on: 0, off: 0 },
         offset: 0,
@@ -365,10 +419,13 @@ impl TimedState {
 
 impl Speed {
     pub const FRESH: Speed = Speed {
-        last: Last::NoStep,
+        last: Last {
+            stepped: false,
+            at: 0,
+        },
         short: Window { steps: 0, sum: 0 },
         long: Window { steps: 0, sum: 0 },
-        travel: Travel {
+        c: Movement {
             negative: false,
             counts: 0,
         },
@@ -376,11 +433,20 @@ impl Speed {
     };
 }
 
+impl Action {
+    pub const UNPROGRAMMED: Action = Action {
+        kind: 0,
+        quantity: 0,
+        count: 0,
+        duration: 0,
+    };
+}
+
 impl Limit {
     pub const NONE: Limit = Limit {
-        switch: Switch::Unprogrammed,
+        action: Action::UNPROGRAMMED,
         enable: false,
-        detector: Anded::Neither,
+        detector: 0,
         onadvance: Advance {
             negative: false,
             tenths: 0,
@@ -393,61 +459,44 @@ impl Limit {
     };
 }
 
-// A fresh module's defaults, and power-up.
-impl Module {
-    pub const SCALE_FACTOR: u16 = 1024;
+impl Errors {
+    pub const NONE: Errors = Errors {
+        setup: false,
+        group: false,
+        limit: false,
+        number: false,
+        setpoint: false,
+    };
+}
 
-    pub const TOP: u16 = Module::SCALE_FACTOR - 1;
+impl Acknowledges {
+    pub const NONE: Acknowledges = Acknowledges {
+        setup: false,
+        group: false,
+        limit: false,
+        nudge: false,
+    };
+}
 
-    pub const OFFSET: u16 = 0;
-
-    pub const PRESET: u16 = 0;
-
-    pub const REVERSED: bool = false;
-
-    pub const FAST_RESPONSE: bool = false;
-
-    pub const INTERRUPT: bool = false;
-
-    pub const INDEPENDENT: bool = false;
-
-    pub const DETECTOR: Detector = Detector { low: 0, high: 0 };
-
-    pub const MULTIPLIER: u16 = 1;
-
-    pub const DIVISOR: u16 = 1;
-
-    pub const DIVIDER: u16 = Module::DIVISOR - 1;
-
-    pub const CODE: DecimalCode = DecimalCode::Code0;
-
-    pub const ACTIVE_STATES: u16 = 0;
-
-    // The setup of a fresh module.
-    fn default_setup() -> Setup
-        ensures { λ r. ⌜ r ≡ defaultSetup ⌝ }
+// What a module start resets.
+impl SinceStart {
+    pub fn fresh() -> SinceStart
+        ensures { λ r. ⌜ r ≡ moduleStart ⌝ }
     {
-        Setup {
-            top: Module::TOP,
-            preset: Module::PRESET,
-            offset: Module::OFFSET,
-            reversed: Module::REVERSED,
-            fast: Module::FAST_RESPONSE,
-            interrupt: Module::INTERRUPT,
-            independent: Module::INDEPENDENT,
-            md1: Module::DETECTOR,
-            md2: Module::DETECTOR,
-            scalars: Scalars {
-                multiplier: Module::MULTIPLIER,
-                divider: Module::DIVIDER,
-                code: Module::CODE,
-            },
-            states: Module::ACTIVE_STATES,
+        let g = GroupState::FRESH;
+        let t = TimedState::FRESH;
+        SinceStart {
+            speed: Speed::FRESH,
+            groups: [g; 6],
+            positions: [GroupPosition(0); 6],
+            timed: [t; 32],
         }
     }
+}
 
-    // A setup with no group and no limit program.
-    pub fn no_programs(u: Setup) -> Programming
+// A setup with no group and no limit program.
+impl Programming {
+    pub fn none(u: Setup) -> Programming
         ensures { λ r. ⌜ r ≡ noPrograms u ⌝ }
     {
         let g = Group::NONE;
@@ -457,79 +506,6 @@ impl Module {
             groups: [g; 6],
             owners: [0; 32],
             limits: [l; 32],
-        }
-    }
-
-    // The state at a module start; Machine Position and the virtual outputs run on from before it.
-    pub fn started(position: MachinePosition, virtuals: u16) -> State
-        ensures { λ r. ⌜ r ≡ moduleStart position virtuals ⌝ }
-    {
-        let g = GroupState::FRESH;
-        let t = TimedState::FRESH;
-        State {
-            speed: Speed::FRESH,
-            groups: [g; 6],
-            positions: [GroupPosition(0); 6],
-            timed: [t; 32],
-            position: position,
-            virtuals: virtuals,
-        }
-    }
-
-    fn fresh(model: Model) -> Module
-        ensures { λ r. ⌜ r ≡ freshModule model ⌝ }
-    {
-        let u = Module::default_setup();
-        Module {
-            configuration: Configuration {
-                model: model,
-                programming: Module::no_programs(u),
-                errors: Errors {
-                    setup: true,
-                    group: false,
-                    limit: false,
-                    number: false,
-                    setpoint: false,
-                },
-                acknowledges: Acknowledges {
-                    setup: false,
-                    group: false,
-                    limit: false,
-                    nudge: false,
-                },
-                ignored: false,
-                fault: false,
-                raw: 0,
-            },
-            state: Module::started(MachinePosition(0), 0),
-        }
-    }
-
-    // Power-up. A number that is no module's is refused with 3, and the slot then holds an 8511's defaults.
-    pub fn power_up(number: u16) -> Programmed
-        ensures { λ r. ⌜ r ≡ poweredUp number ⌝ }
-    {
-        if number == 8511 {
-            return Programmed {
-                card: Module::fresh(Model::M8511),
-                outcome: Outcome::Accepted,
-            };
-        }
-        if number == 8512 {
-            return Programmed {
-                card: Module::fresh(Model::M8512),
-                outcome: Outcome::Accepted,
-            };
-        }
-        if number == 8513 {
-            return Programmed {
-                card: Module::fresh(Model::M8513),
-                outcome: Outcome::Accepted,
-            };
-        }
-        Programmed {
-            card: Module::fresh(Model::M8511),
-            outcome: Outcome::Refused(Refusal::UnknownModule),
         }
     }
 }

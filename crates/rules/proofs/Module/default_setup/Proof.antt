@@ -1,6 +1,6 @@
 -- `Module::default_setup` meets its contract. Assumes nothing.
 use mathlib.Core.Path.{refl}
-use Rattle.rules.specs.Programming.{defaultSetup}
+use Rattle.rules.specs.Calls.{defaultSetup}
 use Rattle.rules.proofs.Module.default_setup.Statement.{statement}
 use Rattle.rules.proofs.Module.default_setup.Tie as tie
 

@@ -2,13 +2,12 @@
 
 ghost use mathlib.Core.Path.{_≡_};
 ghost use Prim.Native.Nat.{_+_, _%_};
-ghost use Rattle.rules.specs.Groups as groups;
-ghost use Rattle.rules.specs.Switches.{usedPair};
-ghost use Rattle.rules.specs.Programming.{pairBad};
+ghost use Rattle.rules.specs.Counts as counts;
+ghost use Rattle.rules.specs.Counts.{usedPair, pairBad};
 
 // How far `to` is ahead of `from`: (to − from) mod SF. In range one comparison and one subtraction, else the remainder.
 pub fn ahead(top: u16, from: u16, to: u16) -> u16
-    ensures { λ r. ⌜ r ≡ groups.ahead (top + 1) from to ⌝ }
+    ensures { λ r. ⌜ r ≡ counts.ahead (top + 1) from to ⌝ }
 {
     if top < from {
         return ahead_far(top, from, to);
@@ -24,7 +23,7 @@ pub fn ahead(top: u16, from: u16, to: u16) -> u16
 
 // The same for counts out of range.
 fn ahead_far(top: u16, from: u16, to: u16) -> u16
-    ensures { λ r. ⌜ r ≡ groups.ahead (top + 1) from to ⌝ }
+    ensures { λ r. ⌜ r ≡ counts.ahead (top + 1) from to ⌝ }
 {
     let sf = top as u32 + 1;
     ((to as u32 + (sf - from as u32 % sf)) % sf) as u16
@@ -56,14 +55,14 @@ pub fn sum_far(top: u16, a: u16, b: u16) -> u16
 
 // A pair (on, off) holds at p.
 pub fn holds(top: u16, on: u16, off: u16, p: u16) -> bool
-    ensures { λ r. ⌜ r ≡ groups.holds (top + 1) on off p ⌝ }
+    ensures { λ r. ⌜ r ≡ counts.holds (top + 1) on off p ⌝ }
 {
     ahead(top, on, p) < ahead(top, on, off)
 }
 
 // The same for counts out of range.
 pub fn holds_far(top: u16, on: u16, off: u16, p: u16) -> bool
-    ensures { λ r. ⌜ r ≡ groups.holds (top + 1) on off p ⌝ }
+    ensures { λ r. ⌜ r ≡ counts.holds (top + 1) on off p ⌝ }
 {
     ahead_far(top, on, p) < ahead_far(top, on, off)
 }

@@ -1,5 +1,3 @@
 pub mod Lists
 pub mod OutputLaws
 pub mod Words
-pub mod Calls
-pub mod Lent

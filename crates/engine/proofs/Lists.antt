@@ -1,39 +1,45 @@
--- Laws of lists that the loops of a step cite: an element by any default, and tables filled upwards and downwards.
+-- Laws of lists that a step cites: an element by a group's number, and tables filled upwards and downwards by a loop.
 -- Assumes nothing.
 use Prim.Native.Nat.{ℕ, zero, suc, _+_, _-_, _<_, _≤_}
-use mathlib.Core.Bool.{Bool, true, false}
+use mathlib.Core.Bool.{Bool, true, false, _||_, true≢false}
 use mathlib.Core.List.{List, [], _∷_, map}
 use mathlib.Core.Path.{_≡_, refl, sym, _∙_}
 use native.Mathlib.Numerals.{add-one}
 use native.Mathlib.Omega.{arith}
-use lib.Dec.{ltb}
+use lib.Dec.{ltb, eqb}
 use lib.ListN.{length, getD, take, drop, set, length-set, length-map, drop-of-length-le, List·getD-eq-default}
 use lib.Seq.{take-suc-set, take-all, drop-cons}
-use borrow.Author.Tests.{ltb-true, ltb-false}
+use borrow.Author.Tests.{eqb-true, ltb-true, ltb-false}
 use Rattle.rules.specs.Words.{table}
-use Rattle.rules.proofs.Packing.{length-table, getD-table-0, table-more}
+use Rattle.rules.specs.Groups.{ofGroup}
+use Rattle.rules.proofs.Packing.{table-more}
+
+-- a number that is neither 0 nor over 6 is that of a group
+by-zero : (n : ℕ) (zeroth : Bool) → eqb n 0 ≡ zeroth → (zeroth || ltb 6 n) ≡ false → (0 < n) × (n ≤ 6)
+by-zero n true e h = absurd (true≢false h)
+by-zero zero false e h = absurd (true≢false e)
+by-zero (suc n) false e h = (omega arith, ltb-false 6 (suc n) h)
+
+pub a-group : (n : ℕ) → (eqb n 0 || ltb 6 n) ≡ false → (0 < n) × (n ≤ 6)
+a-group n h = by-zero n (eqb n 0) refl h
 
 module _ {A : Type 0} where
-  -- inside a list the default does not matter
-  pub getD-inside : (xs : List A) (n : ℕ) (d e : A) → n < length xs → getD xs n d ≡ getD xs n e
-  getD-inside [] n d e h = absurd (omega arith)
-  getD-inside (x ∷ xs) zero d e h = refl
-  getD-inside (x ∷ xs) (suc n) d e h = getD-inside xs n d e (omega arith)
+  -- what the six groups have at a number: one of them, or none
+  of-one : (none : A) (xs : List A) (n : ℕ) → 0 < n → ofGroup none xs n ≡ getD xs (n - 1) none
+  of-one none xs zero h = absurd (omega arith)
+  of-one none xs (suc n) h = let e : suc n - 1 ≡ n = omega arith in rw e
 
-  -- a table read anywhere: past its end by a default that the function has there
-  pub table-anywhere : (n : ℕ) (f : ℕ → A) (d : A) (k : ℕ) → (n ≤ k → f k ≡ d) → getD (table n 0 f) k d ≡ f k
-  table-anywhere n f d k past = by-place (ltb k n) refl where
-    by-place : (inside : Bool) → ltb k n ≡ inside → getD (table n 0 f) k d ≡ f k
-    by-place true e = getD-table-0 n f d k (ltb-true k n e)
-    by-place false e =
-        let l : n ≤ k = ltb-false k n e in
-        List·getD-eq-default (table n 0 f) d (omega (arith, length-table n 0 f)) ∙ sym (past l)
+  pub of-some : (none : A) (xs : List A) (n : ℕ) → (eqb n 0 || ltb 6 n) ≡ false → ofGroup none xs n ≡ getD xs (n - 1) none
+  of-some none xs n h = of-one none xs n (a-group n h .0)
 
-  -- functions that agree make one table
-  pub table-same : (n i : ℕ) (f g : ℕ → A) → ((k : ℕ) → f k ≡ g k) → table n i f ≡ table n i g
-  unfolding table
-  table-same zero i f g h = refl
-  table-same (suc n) i f g h = rw (h i, table-same n (i + 1) f g h)
+  by-number : (none : A) (xs : List A) (n : ℕ) → length xs ≡ 6 → (zeroth : Bool) → eqb n 0 ≡ zeroth → (zeroth || ltb 6 n) ≡ true → ofGroup none xs n ≡ none
+  by-number none xs n six true e h = rw (eqb-true n 0 e)
+  by-number none xs n six false e h =
+      let l : 6 < n = ltb-true 6 n h in
+      of-one none xs n (omega arith) ∙ List·getD-eq-default xs none (omega arith)
+
+  pub of-none : (none : A) (xs : List A) (n : ℕ) → length xs ≡ 6 → (eqb n 0 || ltb 6 n) ≡ true → ofGroup none xs n ≡ none
+  of-none none xs n six h = by-number none xs n six (eqb n 0) refl h
 
   -- a list of n elements whose first k are those of a function
   abbrev pub FilledUp : ℕ → ℕ → (ℕ → A) → List A → Type 0

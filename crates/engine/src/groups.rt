@@ -2,13 +2,15 @@
 
 ghost use mathlib.Core.Path.{_≡_};
 ghost use mathlib.Core.Bool.{cond};
+ghost use Rattle.rules.specs.Groups as groups;
 ghost use Rattle.rules.specs.Card as card;
-ghost use Rattle.engine.specs.Groups as groups;
-use crate::reading::Reading;
+use rules::Conditions;
 use rules::Event;
 use rules::Group;
 use rules::GroupPosition;
 use rules::GroupState;
+use rules::variants::mode_of;
+use rules::variants::type_of;
 
 // A group after a step, the Group Position that the step leaves, and whether the group is open.
 struct GroupAfter {
@@ -24,16 +26,14 @@ pub struct GroupsAfter {
 }
 
 // What group n, from 0, meets in a step.
-fn event(w: Reading, g: Group, n: u16) -> Event
-    ensures { λ r. ⌜ r ≡ groups.eventIn w g n ⌝ }
+fn event(w: Conditions, g: Group, n: u16) -> Event
+    ensures { λ r. ⌜ r ≡ groups.groupEvent w g n ⌝ }
 {
     let machine = w.machine;
-    let kind = g.kind;
-    let firstcycle = g.firstcycle;
     Event {
         machine: machine,
-        level: motion::level(w.real, w.virtuals, kind, n),
-        first: motion::level(w.real, w.virtuals, firstcycle, 7),
+        level: motion::level(w, type_of(g.isvirtual), n),
+        first: motion::level(w, type_of(g.firstvirtual), 7),
         rpm: w.rpm,
         update: w.update,
     }
@@ -41,7 +41,7 @@ fn event(w: Reading, g: Group, n: u16) -> Event
 
 // The position that a step leaves, 0 for a group unused then.
 fn left_position(used: bool, p: GroupPosition) -> GroupPosition
-    ensures { λ r. ⌜ r ≡ cond used p card.noPosition ⌝ }
+    ensures { λ r. ⌜ r ≡ cond used p groups.noPosition ⌝ }
 {
     if used {
         return p;
@@ -50,12 +50,12 @@ fn left_position(used: bool, p: GroupPosition) -> GroupPosition
 }
 
 // A group's step, worked out once for its state, its position and its openness.
-fn group_after(w: Reading, g: Group, x: GroupState, n: u16) -> GroupAfter
-    ensures { λ r. ⌜ r ≡ groups.groupIn w g x n ⌝ }
+fn group_after(w: Conditions, g: Group, x: GroupState, n: u16) -> GroupAfter
+    ensures { λ r. ⌜ (r .state ≡ card.groupNow w g x n) × (r .position ≡ card.leftPosition w g x n) × (r .isopen ≡ card.openNow w g x n) ⌝ }
 {
     let e = event(w, g, n);
     let step = group::group_step(w.top, g, x, e);
-    let mode = g.mode;
+    let mode = mode_of(g.mode);
     let state = step.state;
     GroupAfter {
         state: state,
@@ -65,8 +65,8 @@ fn group_after(w: Reading, g: Group, x: GroupState, n: u16) -> GroupAfter
 }
 
 // The six groups after a step.
-pub fn groups_after(w: Reading, gs: [Group; 6], xs: [GroupState; 6]) -> GroupsAfter
-    ensures { λ r. ⌜ r ≡ groups.groupsIn w gs xs ⌝ }
+pub fn groups_after(w: Conditions, gs: [Group; 6], xs: [GroupState; 6]) -> GroupsAfter
+    ensures { λ r. ⌜ (r .states ≡ card.groupsNow w gs xs) × (r .positions ≡ card.positionsNow w gs xs) × (r .isopen ≡ card.opennessNow w gs xs) ⌝ }
 {
     let mut states = xs;
     let mut positions = [GroupPosition(0); 6];

@@ -1,85 +1,101 @@
 // The step: Machine Position and speed, the active inputs, the six groups, the 32 outputs with their forces, and what the card answers and keeps.
 mod answer;
+mod conditions;
 mod groups;
 mod outputs;
-mod reading;
 
 ghost use mathlib.Core.Path.{_≡_};
+ghost use mathlib.Core.Bool.{true, false};
 ghost use lib.ListN.{replicate};
+ghost use Rattle.rules.specs.Words as words;
+ghost use Rattle.rules.specs.Cycle as cycle;
+ghost use Rattle.rules.specs.Calls as calls;
 ghost use Rattle.rules.specs.Card as card;
-ghost use Rattle.engine.specs.Calls as calls;
-use crate::answer::fault_answer;
+use crate::answer::answer_of;
 use crate::answer::output_words;
-use crate::answer::sound_answer;
-use crate::groups::GroupsAfter;
+use crate::conditions::conditions_of;
+use crate::conditions::fault_conditions;
+use crate::conditions::speed_now;
 use crate::groups::groups_after;
 use crate::outputs::outputs_after;
-use crate::reading::reading_of;
-use crate::reading::speed_at;
 use rules::Answer;
+use rules::Conditions;
 use rules::GroupPosition;
 use rules::GroupState;
-use rules::MachinePosition;
+use rules::Kept;
 use rules::Module;
+use rules::Programming;
 use rules::Sample;
+use rules::SinceStart;
 use rules::Speed;
 use rules::State;
-use rules::Stepped;
+use rules::StepResult;
 use rules::TimedState;
+use rules::variants::model_of;
 
 // What a step changes of the module, and what it answers.
-struct Change {
+pub struct Change {
     pub state: State,
     pub raw: u16,
     pub fault: bool,
     pub answer: Answer,
 }
 
-// What a step leaves that is not answered 11.
-fn state_after(
-    speed: Speed,
-    machine: MachinePosition,
-    gs: GroupsAfter,
-    timed: [TimedState; 32],
-    virtuals: u16,
-) -> State
-    ensures { λ r. ⌜ r ≡ calls.stateIn speed machine gs timed virtuals ⌝ }
+// What a step leaves that is not answered 11, and its 32 outputs before the forces.
+struct Since {
+    pub since: SinceStart,
+    pub on: u32,
+}
+
+// The groups and the outputs of a step that is not answered 11.
+fn since_after(p: Programming, w: Conditions, speed: Speed, x: SinceStart) -> Since
+    ensures { λ r. ⌜ (r .since ≡ card.sinceAfter p w speed x) × (r .on ≡ words.packed 32 0 (card.ruleNow p w x)) ⌝ }
 {
+    let programs = p.groups;
+    let before = x.groups;
+    let gs = groups_after(w, programs, before);
     let states = gs.states;
     let positions = gs.positions;
-    State {
+    let isopen = gs.isopen;
+    let timed = x.timed;
+    let o = outputs_after(p, w, positions, isopen, timed);
+    let renewed = o.timed;
+    let since = SinceStart {
         speed: speed,
         groups: states,
         positions: positions,
-        timed: timed,
-        position: machine,
-        virtuals: virtuals,
+        timed: renewed,
+    };
+    Since {
+        since: since,
+        on: o.on,
     }
 }
 
 // A step that is not answered 11.
 fn sound_step(m: Module, s: Sample) -> Change
-    ensures { λ r. ⌜ r ≡ calls.soundChange m s ⌝ }
+    requires { ⌜ calls.sound (m .configuration) s ≡ true ⌝ }
+    ensures { λ r. ⌜ (r .state ≡ card.stepState (m .configuration) (m .state) s) × (r .answer ≡ card.stepAnswer (m .configuration) (m .state) s) × (r .raw ≡ s .raw) × (r .fault ≡ m .configuration .fault) ⌝ }
 {
     let g = m.configuration;
-    let model = g.model;
+    let p = m.configuration.programming;
     let u = m.configuration.programming.setup;
-    let last = m.state.speed;
-    let speed = speed_at(u, last, s.raw);
-    let w = reading_of(model, u, last, speed, s);
-    let programs = m.configuration.programming.groups;
-    let states = m.state.groups;
-    let gs = groups_after(w, programs, states);
-    let positions = gs.positions;
-    let isopen = gs.isopen;
-    let owners = m.configuration.programming.owners;
-    let limits = m.configuration.programming.limits;
-    let timed = m.state.timed;
-    let o = outputs_after(w, positions, isopen, owners, limits, timed);
-    let both = output_words(model, s, o.on);
-    let renewed = o.timed;
-    let state = state_after(speed, w.machine, gs, renewed, both.virtuals);
-    let answer = sound_answer(u, w, m.state.virtuals, both);
+    let x = m.state.since;
+    let speed = speed_now(u, x.speed, s);
+    let w = conditions_of(g, s, x.speed, speed);
+    let after = since_after(p, w, speed, x);
+    let both = output_words(model_of(g.model), s, after.on);
+    let answer = answer_of(u, false, w, m.state.kept.virtuals, both);
+    let since = after.since;
+    let machine = w.machine;
+    let kept = Kept {
+        position: machine,
+        virtuals: both.virtuals,
+    };
+    let state = State {
+        since: since,
+        kept: kept,
+    };
     Change {
         state: state,
         raw: s.raw,
@@ -105,26 +121,34 @@ fn timed_at_rest(xs: [TimedState; 32]) -> [TimedState; 32]
     timed
 }
 
-// A step that is answered 11: it latches the fault, and is a module start. The state is that of `Module::started`.
+// A step that is answered 11: it latches the fault, and is a module start. The fresh state is written here and not in a function of its own: the
+// compiler then does not copy the module in every step.
 fn fault_step(m: Module, s: Sample) -> Change
-    ensures { λ r. ⌜ r ≡ calls.faultChange m s ⌝ }
+    requires { ⌜ calls.sound (m .configuration) s ≡ false ⌝ }
+    ensures { λ r. ⌜ (r .state ≡ card.stepState (m .configuration) (m .state) s) × (r .answer ≡ card.stepAnswer (m .configuration) (m .state) s) × (r .raw ≡ m .configuration .raw) × (r .fault ≡ true) ⌝ }
 {
     let g = m.configuration;
-    let model = g.model;
     let u = m.configuration.programming.setup;
-    let last = m.state.position;
-    let timed = m.state.timed;
-    let both = output_words(model, s, 0);
-    let answer = fault_answer(u, last, m.state.virtuals, both);
+    let last = m.state.kept.position;
+    let timed = m.state.since.timed;
+    let w = fault_conditions(g, s, last);
+    let forced = output_words(model_of(g.model), s, 0);
+    let answer = answer_of(u, true, w, m.state.kept.virtuals, forced);
     let at_rest = timed_at_rest(timed);
     let group = GroupState::FRESH;
-    let state = State {
+    let since = SinceStart {
         speed: Speed::FRESH,
         groups: [group; 6],
         positions: [GroupPosition(0); 6],
         timed: at_rest,
+    };
+    let kept = Kept {
         position: last,
-        virtuals: both.virtuals,
+        virtuals: forced.virtuals,
+    };
+    let state = State {
+        since: since,
+        kept: kept,
     };
     Change {
         state: state,
@@ -135,20 +159,20 @@ fn fault_step(m: Module, s: Sample) -> Change
 }
 
 // What a step changes.
-fn change_of(m: Module, s: Sample) -> Change
-    ensures { λ r. ⌜ calls.changed m r ≡ card.stepCall m s ⌝ }
+pub fn change_of(m: Module, s: Sample) -> Change
+    ensures { λ r. ⌜ (r .state ≡ card.stepState (m .configuration) (m .state) s) × (r .answer ≡ card.stepAnswer (m .configuration) (m .state) s) × (cycle.withFault (cycle.withRaw (m .configuration) (r .raw)) (r .fault) ≡ calls.stepConfiguration (m .configuration) s) ⌝ }
 {
     if m.configuration.fault {
         return fault_step(m, s);
     }
-    if 1023 < s.raw {
+    if Module::RAW_MOST < s.raw {
         return fault_step(m, s);
     }
     sound_step(m, s)
 }
 
 // One step of the card. What is not changed is the same in either case, so that it need not be copied.
-pub fn step(m: Module, s: Sample) -> Stepped
+pub fn step(m: Module, s: Sample) -> StepResult
     ensures { λ r. ⌜ r ≡ card.stepCall m s ⌝ }
 {
     let c = change_of(m, s);
@@ -158,17 +182,8 @@ pub fn step(m: Module, s: Sample) -> Stepped
     n.configuration.raw = c.raw;
     n.configuration.fault = c.fault;
     n.state = state;
-    Stepped {
+    StepResult {
         card: n,
         answer: answer,
     }
-}
-
-// The same step on a module that is lent, changed where it sits.
-pub fn step_in_place(m: &mut Module, s: Sample) -> Answer
-    ensures { λ r. ⌜ (now (m .exit) ≡ (card.stepCall (now (m .entry)) s) .card) × (r ≡ (card.stepCall (now (m .entry)) s) .answer) ⌝ }
-{
-    let r = step(*m, s);
-    *m = r.card;
-    r.answer
 }

@@ -2,14 +2,25 @@
 
 ghost use mathlib.Core.Path.{_≡_};
 ghost use mathlib.Core.Bool.{false};
-ghost use Rattle.engine.specs.Outputs as outputs;
-use crate::reading::Reading;
+ghost use lib.Dec.{ltb};
+ghost use Rattle.rules.specs.Words as words;
+ghost use Rattle.rules.specs.Groups as groups;
+ghost use Rattle.rules.specs.Switches as switches;
+ghost use Rattle.rules.specs.Card as card;
 use rules::Anded;
+use rules::Conditions;
 use rules::GroupPosition;
 use rules::Limit;
 use rules::Position;
-use rules::Switch;
+use rules::Programming;
 use rules::TimedState;
+use rules::variants::anded_of;
+use rules::variants::switch_of;
+
+// The kinds of a limit switch that are told apart before `switch_of` reads it.
+const UNPROGRAMMED: u16 = 0;
+
+const TIMED: u16 = 3;
 
 // An output before the forces, and its timed switch after a step.
 struct OutputAfter {
@@ -34,49 +45,42 @@ impl OutputAfter {
     };
 }
 
-// The place of group `owner` among the six.
-fn place(owner: u16) -> usize
-    ensures { λ r. ⌜ r ≡ outputs.placeOf owner ⌝ }
+// Where group `owner`, from 1, is; 0 or over 6 is no group, at 0.
+fn group_place(positions: [GroupPosition; 6], owner: u16) -> GroupPosition
+    ensures { λ r. ⌜ r ≡ groups.ofGroup groups.noPosition positions owner ⌝ }
 {
-    if owner == 0 {
-        return 0;
+    if (owner == 0) | (6 < owner) {
+        return GroupPosition(0);
     }
-    owner as usize - 1
+    let at = owner as usize - 1;
+    positions[at]
 }
 
-// The position that an output's switch reads: of the group that it was dealt to, or Machine Position in Independent Mode.
-fn switch_position(w: Reading, positions: [GroupPosition; 6], owner: u16) -> Position
-    ensures { λ r. ⌜ r ≡ outputs.positionIn w positions owner ⌝ }
+// Group `owner` is open; 0 or over 6 is no group, closed.
+fn group_open(isopen: [bool; 6], owner: u16) -> bool
+    ensures { λ r. ⌜ r ≡ groups.ofGroup false isopen owner ⌝ }
+{
+    if (owner == 0) | (6 < owner) {
+        return false;
+    }
+    let at = owner as usize - 1;
+    isopen[at]
+}
+
+// The position that an output's switch reads: of its group, or Machine Position in Independent Mode.
+fn switch_position(w: Conditions, position: GroupPosition) -> Position
+    ensures { λ r. ⌜ r ≡ switches.switchPosition w position ⌝ }
 {
     if w.independent {
         let machine = w.machine;
         return Position::OfMachine(machine);
     }
-    let at = place(owner);
-    if 6 <= at {
-        return Position::OfGroup(GroupPosition(0));
-    }
-    let p = positions[at];
-    Position::OfGroup(p)
-}
-
-// An output's group is open; an output that was dealt to none has none.
-fn group_open(isopen: [bool; 6], owner: u16) -> bool
-    ensures { λ r. ⌜ r ≡ outputs.openIn isopen owner ⌝ }
-{
-    if owner == 0 {
-        return false;
-    }
-    let at = place(owner);
-    if 6 <= at {
-        return true;
-    }
-    isopen[at]
+    Position::OfGroup(position)
 }
 
 // The group lets output n, from 0, on; in Independent Mode a real output's own real input does.
-fn admitted(w: Reading, group: bool, n: u16) -> bool
-    ensures { λ r. ⌜ r ≡ outputs.admittedIn w group n ⌝ }
+fn admitted(w: Conditions, isopen: bool, n: u16) -> bool
+    ensures { λ r. ⌜ r ≡ switches.admitted w isopen n ⌝ }
 {
     if w.independent {
         if n < 16 {
@@ -84,12 +88,12 @@ fn admitted(w: Reading, group: bool, n: u16) -> bool
         }
         return true;
     }
-    group
+    isopen
 }
 
 // What LS Enable has to say; in Independent Mode nothing.
-fn enabled(w: Reading, enable: bool, n: u16) -> bool
-    ensures { λ r. ⌜ r ≡ outputs.enabledIn w enable n ⌝ }
+fn enabled(w: Conditions, enable: bool, n: u16) -> bool
+    ensures { λ r. ⌜ r ≡ switches.enableHolds w enable n ⌝ }
 {
     if w.independent {
         return true;
@@ -104,10 +108,11 @@ fn enabled(w: Reading, enable: bool, n: u16) -> bool
 }
 
 // The motion detector that an output is ANDed with.
-fn detector_holds(w: Reading, d: Anded) -> bool
-    ensures { λ r. ⌜ r ≡ outputs.detectorIn d w ⌝ }
+fn detector_holds(w: Conditions, d: Anded) -> bool
+    ensures { λ r. ⌜ r ≡ switches.detectorHolds d w ⌝ }
 {
     match d {
+        Anded::Never => false,
         Anded::Neither => true,
         Anded::First => w.md1,
         Anded::Second => w.md2,
@@ -115,103 +120,86 @@ fn detector_holds(w: Reading, d: Anded) -> bool
 }
 
 // The group is open, and what is ANDed holds.
-fn passes(w: Reading, l: Limit, group: bool, n: u16) -> bool
-    ensures { λ r. ⌜ r ≡ outputs.passesIn w l group n ⌝ }
+fn passes(w: Conditions, l: Limit, isopen: bool, n: u16) -> bool
+    ensures { λ r. ⌜ r ≡ switches.passes w l isopen n ⌝ }
 {
-    if admitted(w, group, n) {
+    if admitted(w, isopen, n) {
         if enabled(w, l.enable, n) {
-            let d = l.detector;
-            return detector_holds(w, d);
+            return detector_holds(w, anded_of(l.detector));
         }
     }
     false
 }
 
-// Whether a switch is timed.
-fn is_timed(s: Switch) -> bool
-    ensures { λ r. ⌜ r ≡ outputs.isTimed s ⌝ }
-{
-    match s {
-        Switch::Unprogrammed => false,
-        Switch::Normal => false,
-        Switch::Pulse(_, _) => false,
-        Switch::Timed(_) => true,
-    }
-}
-
-// Whether an output has a program.
-fn is_programmed(s: Switch) -> bool
-    ensures { λ r. ⌜ r ≡ outputs.isProgrammed s ⌝ }
-{
-    match s {
-        Switch::Unprogrammed => false,
-        Switch::Normal => true,
-        Switch::Pulse(_, _) => true,
-        Switch::Timed(_) => true,
-    }
-}
-
 // An output whose switch is not timed; its pairs are tested only where the rest of the rule lets it on.
-fn untimed_on(w: Reading, l: Limit, p: Position, group: bool, n: u16) -> bool
-    ensures { λ r. ⌜ r ≡ outputs.onIn w l p false group n ⌝ }
+fn untimed_on(w: Conditions, l: Limit, position: GroupPosition, isopen: bool, n: u16) -> bool
+    ensures { λ r. ⌜ r ≡ switches.outputRule w l position isopen false n ⌝ }
 {
-    if passes(w, l, group, n) {
+    if passes(w, l, isopen, n) {
+        let p = switch_position(w, position);
         return switch::switch_holds(w.top, w.c, l, p, false);
     }
     false
 }
 
+// A timed switch after a step.
+fn timed_now(w: Conditions, l: Limit, position: GroupPosition, x: TimedState) -> TimedState
+    ensures { λ r. ⌜ r ≡ card.timedNow w l position x ⌝ }
+{
+    let p = switch_position(w, position);
+    let held = switch::pair_holds(w.top, w.c, l, 0, p);
+    switch::timed_after(switch_of(l.action), held, x)
+}
+
 // Output n, from 0, before the forces. Of a timed switch the pair is tested once, for its state and for the output.
 fn output_after(
-    w: Reading,
+    w: Conditions,
     l: Limit,
-    p: Position,
-    group: bool,
+    position: GroupPosition,
+    isopen: bool,
     n: u16,
     x: TimedState,
 ) -> OutputAfter
-    ensures { λ r. ⌜ r ≡ outputs.outputIn w l p group n x ⌝ }
+    ensures { λ r. ⌜ (r .on ≡ switches.outputRule w l position isopen (ltb 0 (card.timedNow w l position x .left)) n) × (r .timed ≡ card.timedNow w l position x) ⌝ }
 {
-    let s = l.switch;
-    if is_timed(s) {
-        let held = switch::pair_holds(w.top, w.c, l, 0, p);
-        let timed = switch::timed_after(s, held, x);
+    if l.action.kind == TIMED {
+        let timed = timed_now(w, l, position, x);
         return OutputAfter {
-            on: (0 < timed.left) & passes(w, l, group, n),
+            on: (0 < timed.left) & passes(w, l, isopen, n),
             timed: timed,
         };
     }
     OutputAfter {
-        on: untimed_on(w, l, p, group, n),
+        on: untimed_on(w, l, position, isopen, n),
         timed: TimedState::FRESH,
     }
 }
 
 // The 32 outputs before the forces, from the highest down. Of an unprogrammed one nothing is worked out.
 pub fn outputs_after(
-    w: Reading,
+    p: Programming,
+    w: Conditions,
     positions: [GroupPosition; 6],
     isopen: [bool; 6],
-    owners: [u16; 32],
-    limits: [Limit; 32],
     xs: [TimedState; 32],
 ) -> OutputsAfter
-    ensures { λ r. ⌜ r ≡ outputs.outputsIn w positions isopen owners limits xs ⌝ }
+    ensures { λ r. ⌜ (r .on ≡ words.packed 32 0 (switches.ruleAt p w positions isopen (λ k. ltb 0 (card.timedOf p w positions xs k .left)))) × (r .timed ≡ words.table 32 0 (card.timedOf p w positions xs)) ⌝ }
 {
+    let limits = p.limits;
+    let owners = p.owners;
     let mut on: u32 = 0;
     let mut timed = xs;
     let mut left: usize = 32;
     while 0 < left {
         left = left - 1;
         let l = limits[left];
-        let s = l.switch;
         let mut a = OutputAfter::OFF;
-        if is_programmed(s) {
+        if l.action.kind != UNPROGRAMMED {
             let x = xs[left];
             let owner = owners[left];
-            let p = switch_position(w, positions, owner);
+            let position = group_place(positions, owner);
             let group = group_open(isopen, owner);
-            a = output_after(w, l, p, group, left as u16, x);
+            a = output_after(w, l, position, group, left as u16, x);
         }
         let t = a.timed;
         timed[left] = t;

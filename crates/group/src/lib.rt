@@ -13,12 +13,24 @@ use rules::GroupState;
 use rules::MachinePosition;
 use rules::Mode;
 use rules::Pair;
+use rules::variants::mode_of;
 
 // A group under a shift: its position, and whether its dwell holds there.
 struct Place {
     pub shift: u16,
     pub position: GroupPosition,
     pub holds: bool,
+}
+
+// What a group meets in a step, worked out: its dwell begins, its input has an edge, the edge is taken, the dwell holds at the step's end, the step is a
+// qualifying one, and one came since the dwell began.
+struct Turn {
+    pub begins: bool,
+    pub edge: bool,
+    pub taken: bool,
+    pub holds: bool,
+    pub qualifying: bool,
+    pub qualified: bool,
 }
 
 // A group after a step, and the Group Position that the step leaves.
@@ -41,10 +53,13 @@ pub fn preset_shift(top: u16, preset: u16, m: MachinePosition) -> u16
     counts::ahead(top, m.0, preset)
 }
 
-// The dwell holds at a Group Position.
+// The dwell holds at a Group Position. That its counts are in range is tested once; on that way the tests within `holds` are decided.
 pub fn dwell_holds(top: u16, d: Pair, p: GroupPosition) -> bool
     ensures { λ r. ⌜ r ≡ groups.dwellHolds (top + 1) d p ⌝ }
 {
+    if (top < d.on) | (top < d.off) | (top < p.0) {
+        return counts::holds_far(top, d.on, d.off, p.0);
+    }
     counts::holds(top, d.on, d.off, p.0)
 }
 
@@ -53,6 +68,7 @@ fn presets(mode: Mode) -> bool
     ensures { λ r. ⌜ r ≡ groups.presets mode ⌝ }
 {
     match mode {
+        Mode::NoMode => false,
         Mode::Mode0 => false,
         Mode::Mode1 => true,
         Mode::Mode2 => true,
@@ -69,13 +85,6 @@ fn edge(before: bool, now: bool) -> bool
     now & !before
 }
 
-// The level that a group takes from its input.
-fn input_level(e: Event) -> bool
-    ensures { λ r. ⌜ r ≡ e .level ⌝ }
-{
-    e.level
-}
-
 // A stop: an update with rpm 0.
 fn stops(e: Event) -> bool
     ensures { λ r. ⌜ r ≡ groups.stops e ⌝ }
@@ -87,25 +96,31 @@ fn stops(e: Event) -> bool
 fn running(e: Event) -> bool
     ensures { λ r. ⌜ r ≡ groups.running e ⌝ }
 {
-    input_level(e) & !(e.rpm == 0)
+    e.level & !(e.rpm == 0)
+}
+
+// What is added to Machine Position: the shift in Modes 1 and 2, else the offset.
+fn added(mode: Mode, shift: u16, offset: u16) -> u16
+    ensures { λ r. ⌜ r ≡ cond (groups.presets mode) shift offset ⌝ }
+{
+    if presets(mode) {
+        return shift;
+    }
+    offset
 }
 
 // Group Position where the shift is `shift`.
-fn position_by(top: u16, g: Group, shift: u16, m: MachinePosition) -> GroupPosition
-    ensures { λ r. ⌜ r ≡ card.positionBy (top + 1) g shift m ⌝ }
+fn position_by(top: u16, g: Group, mode: Mode, shift: u16, m: MachinePosition) -> GroupPosition
+    ensures { λ r. ⌜ r ≡ steps.positionWith (top + 1) g mode shift m ⌝ }
 {
-    let mode = g.mode;
-    if presets(mode) {
-        return group_position(top, shift, m);
-    }
-    group_position(top, g.offset, m)
+    group_position(top, added(mode, shift, g.offset), m)
 }
 
-// A group's place where the shift is `shift`; the only test of its dwell.
-fn place_by(top: u16, g: Group, shift: u16, m: MachinePosition) -> Place
-    ensures { λ r. ⌜ r ≡ steps.placeAt (top + 1) g shift m ⌝ }
+// A group's place in a mode, where the shift is `shift`; the only test of its dwell.
+fn place_by(top: u16, g: Group, mode: Mode, shift: u16, m: MachinePosition) -> Place
+    ensures { λ r. ⌜ r ≡ steps.placeAt (top + 1) g mode shift m ⌝ }
 {
-    let p = position_by(top, g, shift, m);
+    let p = position_by(top, g, mode, shift, m);
     Place {
         shift: shift,
         position: p,
@@ -121,11 +136,11 @@ fn takes(mode: Mode, x: GroupState, edge: bool, begins: bool) -> bool
 }
 
 // The place at the step's end: a taken edge sets the position to the preset, and the dwell is judged anew.
-fn end_place(top: u16, g: Group, m: MachinePosition, takes: bool, start: Place) -> Place
-    ensures { λ r. ⌜ r ≡ cond takes (steps.placeAt (top + 1) g (groups.presetShift (top + 1) (g .offset) m) m) start ⌝ }
+fn end_place(top: u16, g: Group, mode: Mode, m: MachinePosition, takes: bool, start: Place) -> Place
+    ensures { λ r. ⌜ r ≡ cond takes (steps.placeAt (top + 1) g mode (groups.presetShift (top + 1) (g .offset) m) m) start ⌝ }
 {
     if takes {
-        return place_by(top, g, preset_shift(top, g.offset, m), m);
+        return place_by(top, g, mode, preset_shift(top, g.offset, m), m);
     }
     start
 }
@@ -149,6 +164,7 @@ fn opened_in(mode: Mode, two: bool, four: bool, five: bool) -> bool
     ensures { λ r. ⌜ r ≡ steps.openedIn mode two four five ⌝ }
 {
     match mode {
+        Mode::NoMode => false,
         Mode::Mode0 => false,
         Mode::Mode1 => false,
         Mode::Mode2 => two,
@@ -158,11 +174,12 @@ fn opened_in(mode: Mode, two: bool, four: bool, five: bool) -> bool
     }
 }
 
-// A group is open: always in Modes 0 and 1, while its input is active in Mode 3, by what came before in the others.
+// A group is open: always in Modes 0 and 1, while its input is active in Mode 3, by what came before in Modes 2, 4 and 5.
 pub fn is_open(mode: Mode, level: bool, opened: bool) -> bool
     ensures { λ r. ⌜ r ≡ groups.isOpen mode level opened ⌝ }
 {
     match mode {
+        Mode::NoMode => false,
         Mode::Mode0 => true,
         Mode::Mode1 => true,
         Mode::Mode2 => opened,
@@ -172,32 +189,46 @@ pub fn is_open(mode: Mode, level: bool, opened: bool) -> bool
     }
 }
 
+// Openness of Modes 2, 4 and 5 after a step.
+fn opened_after(mode: Mode, x: GroupState, e: Event, t: Turn) -> bool
+    ensures { λ r. ⌜ r ≡ steps.openedAfter mode x e t ⌝ }
+{
+    let two = since_dwell(t.taken, t.begins, x.opened);
+    let four = since_dwell(t.holds & t.edge, t.begins, x.opened);
+    let first = edge(x.first, e.first) & t.qualified;
+    let five = stop_first_cycle(stops(e), t.qualifying, first, !t.begins & x.opened);
+    opened_in(mode, two, four, five)
+}
+
 // A group's step.
 pub fn group_step(top: u16, g: Group, x: GroupState, e: Event) -> GroupStep
     ensures { λ r. ⌜ (r .state ≡ card.groupAfter (top + 1) g x e) × (r .position ≡ card.positionNow (top + 1) g x e) ⌝ }
 {
-    let mode = g.mode;
-    let level = input_level(e);
-    let edge_now = edge(x.level, level);
-    let before = place_by(top, g, x.shift, e.machine);
+    let mode = mode_of(g.mode);
+    let edge_now = edge(x.level, e.level);
+    let before = place_by(top, g, mode, x.shift, e.machine);
     let begins = before.holds & !x.held;
     let taken = takes(mode, x, edge_now, begins);
-    let end = end_place(top, g, e.machine, taken, before);
+    let end = end_place(top, g, mode, e.machine, taken, before);
     let qualifying = end.holds & running(e);
     let qualified = since_dwell(qualifying, begins, x.qualified);
-    let two = since_dwell(taken, begins, x.opened);
-    let four = since_dwell(end.holds & edge_now, begins, x.opened);
-    let first = edge(x.first, e.first) & qualified;
-    let five = stop_first_cycle(stops(e), qualifying, first, !begins & x.opened);
+    let turn = Turn {
+        begins: begins,
+        edge: edge_now,
+        taken: taken,
+        holds: end.holds,
+        qualifying: qualifying,
+        qualified: qualified,
+    };
     let state = GroupState {
-        level: level,
+        level: e.level,
         first: e.first,
         held: end.holds,
         shift: end.shift,
         taken: taken | x.taken,
         begun: !taken & (begins | x.begun),
         qualified: qualified,
-        opened: opened_in(mode, two, four, five),
+        opened: opened_after(mode, x, e, turn),
     };
     let position = end.position;
     GroupStep {

@@ -1,9 +1,9 @@
 -- Laws of the rules of motion: the word of the active real inputs, remainders as naturals, bounds of the products, and the signed numbers that the state's unsigned ones stand for.
 -- Assumes nothing.
-use Prim.Native.Nat.{ℕ, zero, suc, _+_, _-_, _*_, _%_, _^_, _≤_, _<_}
+use Prim.Native.Nat.{ℕ, zero, suc, _+_, _-_, _%_, _^_, _≤_, _<_}
 use mathlib.Core.Bool.{Bool, true, false, not, _&&_, xor, Bool·beq}
 use mathlib.Core.Path.{_≡_, refl, sym, ap, _∙_}
-use native.Mathlib.Nat.{mul-le-mul, zero-add}
+use native.Mathlib.Nat.{mul-le-mul}
 use native.Mathlib.Numerals.{add-one}
 use native.Mathlib.Omega.{arith}
 use borrow.Author.Tests.{ltb-true, ltb-false, lt-ltb, le-ltb, leb-false, ne-eqb}
@@ -11,23 +11,19 @@ use lib.Bits.{bitAnd, bitOr, bitXor}
 use lib.Dec.{ltb, leb, eqb, leb·zero, leb·suc-suc, eqb·suc-zero}
 use lib.IntN.{pos, negsuc, natAbs, subℕ, _+ℤ_}
 use Rattle.rules.specs.declared.Model.{Model}
-use Rattle.rules.specs.declared.Model.the-variants.{M8511, M8512, M8513}
-use Rattle.rules.specs.declared.IoType.{IoType}
-use Rattle.rules.specs.declared.IoType.the-variants.{Real, Virtual}
 use Rattle.rules.specs.declared.DecimalCode.{DecimalCode}
 use Rattle.rules.specs.declared.DecimalCode.the-variants.{Code0, Code1, Code2, Code3}
-use Rattle.rules.specs.declared.Last.the-variants.{At}
+use Rattle.rules.specs.declared.Movement.{Movement}
 use Rattle.rules.specs.declared.Setup.{Setup}
 use Rattle.rules.specs.declared.Sample.{Sample}
-use Rattle.rules.specs.declared.Travel.{Travel}
 use Rattle.rules.specs.declared.Window.{Window}
-use Rattle.rules.specs.Words.{bit, wordOf, forced}
-use Rattle.rules.specs.Motion.{realCount, realInput, inputLevel, turned, scaledPosition, rpmOf, codeNumber, signed, travelValue}
-use Rattle.rules.specs.Card.{biasedMovement, updates}
+use Rattle.rules.specs.Words.{bit, wordOf, modulo, forced}
+use Rattle.rules.specs.Variants.{realCount, codeNumber}
+use Rattle.rules.specs.Motion.{realInput, turned, scaledPosition, rpmOf, signed, movementValue}
+use Rattle.rules.specs.Card.{updates}
 use Rattle.rules.proofs.Laws.{modulo-natural}
-use Rattle.rules.proofs.Packing.{packed-same, packed-bit, packed-lt}
-use Rattle.word.proofs.Laws.{xor-bit, not-bit, forces-packed, bit-past}
-use Rattle.motion.specs.Level.{levelIn}
+use Rattle.rules.proofs.Packing.{packed-same}
+use Rattle.word.proofs.Laws.{xor-bit, not-bit, forces-packed}
 
 -- ---- Inputs
 
@@ -50,30 +46,6 @@ inputs-word m u s =
     ∙ packed-same 16 0 (λ n. ltb n (realCount m) && forced (bit (s .inputsoff) n) (bit (s .inputson) n) (bit active n)) (realInput m u s)
     (λ k a h. ap (λ (b : Bool). ltb k (realCount m) && forced (bit (s .inputsoff) k) (bit (s .inputson) k) b)
     (not-bit same k h ∙ ap not (xor-bit (s .currents) (u .states) k) ∙ not-xor (bit (s .currents) k) (bit (u .states) k)))
-
-count-le : (m : Model) → realCount m ≤ 16
-unfolding realCount
-count-le M8511 = omega arith
-count-le M8512 = omega arith
-count-le M8513 = omega arith
-
-by-place : (m : Model) (u : Setup) (s : Sample) (n : ℕ) (below : Bool) → ltb n 16 ≡ below → bit (wordOf 0 (realInput m u s)) n ≡ realInput m u s n
-unfolding realInput
-by-place m u s n true h = packed-bit 16 0 n (realInput m u s) (ltb-true n 16 h) ∙ ap (realInput m u s) (zero-add n)
-by-place m u s n false h =
-    let l : 16 ≤ n = ltb-false n 16 h in
-    let e : ltb n (realCount m) ≡ false = le-ltb n (realCount m) (omega (arith, count-le m)) in
-    bit-past (wordOf 0 (realInput m u s)) n 16 (packed-lt 16 0 (realInput m u s)) l ∙ rw e
-
--- its bits are the rule's, at every n
-pub real-bit : (m : Model) (u : Setup) (s : Sample) (n : ℕ) → bit (wordOf 0 (realInput m u s)) n ≡ realInput m u s n
-real-bit m u s n = by-place m u s n (ltb n 16) refl
-
--- `level` over that word is the rule's level
-pub level-is : (m : Model) (u : Setup) (s : Sample) (kind : IoType) (n : ℕ) → levelIn (wordOf 0 (realInput m u s)) (s .virtuals) kind n ≡ inputLevel m u s kind n
-unfolding inputLevel
-level-is m u s Real n = real-bit m u s n
-level-is m u s Virtual n = refl
 
 -- ---- Positions and movement
 
@@ -103,8 +75,7 @@ by-order a b k false t g h =
 pub difference-add : (a b k : ℕ) → subℕ a b +ℤ pos k ≡ subℕ (a + k) b
 difference-add a b k = by-order a b k (ltb a b) (ltb (a + k) b) refl refl
 
-pub biased-natural : (last q : ℕ) → biasedMovement (At last) q ≡ (q + (1024 - last % 1024) + 512) % 1024
-unfolding biasedMovement
+pub biased-natural : (last q : ℕ) → modulo (subℕ q last +ℤ pos 512) 1024 ≡ (q + (1024 - last % 1024) + 512) % 1024
 biased-natural last q = rw (difference-add q last 512) (modulo-natural (q + 512) last 1023 ∙ omega arith)
 
 -- ---- Windows
@@ -126,12 +97,9 @@ signed-size true zero = refl
 signed-size true (suc n) = refl
 signed-size false n = refl
 
-pub travel-size : (t : Travel) → natAbs (travelValue t) ≡ t .counts
-travel-size t = signed-size (t .negative) (t .counts)
-
-pub rpm-travel : (fast : Bool) (t : Travel) → rpmOf fast (travelValue t) ≡ rpmOf fast (pos (t .counts))
+pub rpm-movement : (fast : Bool) (t : Movement) → rpmOf fast (movementValue t) ≡ rpmOf fast (pos (t .counts))
 unfolding rpmOf
-rpm-travel fast t = rw (travel-size t)
+rpm-movement fast t = rw (signed-size (t .negative) (t .counts))
 
 -- ---- Tachometer and detectors
 

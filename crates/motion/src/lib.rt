@@ -5,32 +5,47 @@ ghost use Prim.Native.Nat.{_+_, _^_};
 ghost use lib.Dec.{ltb};
 ghost use lib.IntN.{pos};
 ghost use Rattle.rules.specs.Words as words;
+ghost use Rattle.rules.specs.Variants as variants;
 ghost use Rattle.rules.specs.Motion as motion;
 ghost use Rattle.rules.specs.Card as card;
-ghost use Rattle.motion.specs.Level.{levelIn};
+use rules::Conditions;
 use rules::DecimalCode;
 use rules::Detector;
 use rules::IoType;
 use rules::Last;
 use rules::MachinePosition;
 use rules::Model;
+use rules::Movement;
 use rules::Sample;
 use rules::Scalars;
 use rules::Setup;
 use rules::Speed;
-use rules::Travel;
 use rules::Window;
+use rules::variants::code_of;
 
 // c is made at every 120th step.
 const SHORT_STEPS: u16 = 120;
 
 // The real inputs, or the real outputs, that a module has, a bit for each.
 pub fn present(m: Model) -> u16
-    ensures { λ r. ⌜ r ≡ words.wordOf 0 (λ n. ltb n (motion.realCount m)) ⌝ }
+    ensures { λ r. ⌜ r ≡ words.wordOf 0 (λ n. ltb n (variants.realCount m)) ⌝ }
 {
     match m {
+        Model::NoModule => 0,
         Model::M8511 => 0,
         Model::M8512 => 0x00ff,
+        Model::M8513 => 0xffff,
+    }
+}
+
+// The same of the virtual ones.
+pub fn virtual_present(m: Model) -> u16
+    ensures { λ r. ⌜ r ≡ words.wordOf 0 (λ n. ltb n (variants.virtualCount m)) ⌝ }
+{
+    match m {
+        Model::NoModule => 0,
+        Model::M8511 => 0xffff,
+        Model::M8512 => 0xffff,
         Model::M8513 => 0xffff,
     }
 }
@@ -44,12 +59,12 @@ pub fn real_inputs(m: Model, u: Setup, s: Sample) -> u16
 }
 
 // The level of input n of a type, from 0.
-pub fn level(real: u16, virtuals: u16, kind: IoType, n: u16) -> bool
-    ensures { λ r. ⌜ r ≡ levelIn real virtuals kind n ⌝ }
+pub fn level(w: Conditions, kind: IoType, n: u16) -> bool
+    ensures { λ r. ⌜ r ≡ motion.level w kind n ⌝ }
 {
     match kind {
-        IoType::Real => word::bit(real, n),
-        IoType::Virtual => word::bit(virtuals, n),
+        IoType::Real => word::bit(w.real, n),
+        IoType::Virtual => word::bit(w.virtuals, n),
     }
 }
 
@@ -82,10 +97,10 @@ pub fn machine_position(u: Setup, raw: u16) -> MachinePosition
 pub fn biased_movement(last: Last, q: u16) -> u16
     ensures { λ r. ⌜ r ≡ card.biasedMovement last q ⌝ }
 {
-    match last {
-        Last::NoStep => 512,
-        Last::At(p) => ((q as u32 + (1024 - p as u32 % 1024) + 512) % 1024) as u16,
+    if last.stepped {
+        return ((q as u32 + (1024 - last.at as u32 % 1024) + 512) % 1024) as u16;
     }
+    512
 }
 
 // How many steps the window of C has.
@@ -125,18 +140,18 @@ pub fn window_after(size: u16, w: Window, m: u16) -> Window
     }
 }
 
-// A sum of movements, the 512 of each step taken off again.
-pub fn travel_of(size: u16, sum: u32) -> Travel
-    ensures { λ r. ⌜ r ≡ card.travelOf size sum ⌝ }
+// The movements that a window's sum stands for, the 512 of each step taken off again.
+pub fn window_movement(size: u16, sum: u32) -> Movement
+    ensures { λ r. ⌜ r ≡ card.windowMovement size sum ⌝ }
 {
     let added = 512 * size as u32;
     if sum < added {
-        return Travel {
+        return Movement {
             negative: true,
             counts: added - sum,
         };
     }
-    Travel {
+    Movement {
         negative: false,
         counts: sum - added,
     }
@@ -153,14 +168,14 @@ pub fn rpm_of(fast: bool, counts: u32) -> u32
 }
 
 // c after a step.
-fn travel_after(x: Speed, m: u16) -> Travel
-    ensures { λ r. ⌜ r ≡ card.travelAfter x m ⌝ }
+fn c_after(x: Speed, m: u16) -> Movement
+    ensures { λ r. ⌜ r ≡ card.cAfter x m ⌝ }
 {
     let short = x.short;
     if updates(SHORT_STEPS, short) {
-        return travel_of(SHORT_STEPS, window_sum(short, m));
+        return window_movement(SHORT_STEPS, window_sum(short, m));
     }
-    x.travel
+    x.c
 }
 
 // rpm after a step.
@@ -170,7 +185,7 @@ fn rpm_after(fast: bool, x: Speed, m: u16) -> u32
     let size = window_steps(fast);
     let long = x.long;
     if updates(size, long) {
-        let t = travel_of(size, window_sum(long, m));
+        let t = window_movement(size, window_sum(long, m));
         return rpm_of(fast, t.counts);
     }
     x.rpm
@@ -185,17 +200,20 @@ pub fn speed_after(u: Setup, x: Speed, q: u16) -> Speed
     let long = x.long;
     let m = biased_movement(last, q);
     Speed {
-        last: Last::At(q),
+        last: Last {
+            stepped: true,
+            at: q,
+        },
         short: window_after(SHORT_STEPS, short, m),
         long: window_after(window_steps(u.fast), long, m),
-        travel: travel_after(x, m),
+        c: c_after(x, m),
         rpm: rpm_after(u.fast, x, m),
     }
 }
 
 // 10^code.
 fn power_of_ten(code: DecimalCode) -> u16
-    ensures { λ r. ⌜ r ≡ 10 ^ motion.codeNumber code ⌝ }
+    ensures { λ r. ⌜ r ≡ 10 ^ variants.codeNumber code ⌝ }
 {
     match code {
         DecimalCode::Code0 => 1,
@@ -209,7 +227,7 @@ fn power_of_ten(code: DecimalCode) -> u16
 pub fn tach_value(k: Scalars, rpm: u32) -> u64
     ensures { λ r. ⌜ r ≡ motion.tachValue k rpm ⌝ }
 {
-    let code = k.code;
+    let code = code_of(k.code);
     let d = (k.divider as u64 + 1) * power_of_ten(code) as u64;
     (2 * (rpm as u64 * k.multiplier as u64) + d) / (2 * d)
 }

@@ -9,7 +9,7 @@ use lib.IntN.{ℤ, pos, negsuc, negℤ, _-ℤ_, _*ℤ_}
 use lib.Signed.{quotZ}
 use Rattle.rules.specs.Words.{modulo}
 use Rattle.rules.specs.Motion.{signed}
-use Rattle.rules.specs.Groups.{ahead}
+use Rattle.rules.specs.Counts.{ahead}
 use Rattle.rules.specs.Switches.{advanceShift, moved}
 use Rattle.rules.proofs.Laws.{minus, modulo-natural, ahead-natural, ahead-up}
 use Rattle.switch.specs.Parts.{shiftCounts}

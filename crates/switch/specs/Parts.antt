@@ -5,8 +5,8 @@ use mathlib.Core.Bool.{Bool, cond, _&&_}
 use mathlib.Core.List.{List}
 use lib.ListN.{getD}
 use Rattle.rules.specs.Words.{someOf}
-use Rattle.rules.specs.Groups.{holds}
-use Rattle.rules.specs.Switches.{usedPair, timedSteps}
+use Rattle.rules.specs.Counts.{holds, usedPair}
+use Rattle.rules.specs.Switches.{timedSteps}
 
 -- |s| of an advance of `tenths` at `counts` in 120 steps, reduced mod SF
 unfoldable pub shiftCounts : ℕ → ℕ → ℕ → ℕ

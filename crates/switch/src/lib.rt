@@ -4,16 +4,18 @@ ghost use mathlib.Core.Bool.{false};
 ghost use mathlib.Core.Path.{_≡_};
 ghost use Prim.Native.Nat.{_+_};
 ghost use lib.ListN.{getD};
-ghost use Rattle.rules.specs.Motion.{travelValue};
+ghost use Rattle.rules.specs.Variants.{limitSwitch};
+ghost use Rattle.rules.specs.Motion.{movementValue};
 ghost use Rattle.rules.specs.Switches.{advanceValue, moved, countAt, pairHolds, normalHolds, pulseStart, pulseOn, pulseHolds, switchHolds};
 ghost use Rattle.rules.specs.Card.{timedAfter};
 ghost use Rattle.switch.specs.Parts.{shiftCounts, pairAt, somePair, lastPulse, timedLeft};
 use rules::Advance;
 use rules::Limit;
+use rules::Movement;
 use rules::Position;
 use rules::Switch;
 use rules::TimedState;
-use rules::Travel;
+use rules::variants::switch_of;
 
 // The magnitude of s, reduced mod SF: advance × c × SF / 245760. The whole product fits in 64 bits; below one turn nothing is left to reduce.
 fn shift_counts(top: u16, tenths: u16, counts: u32) -> u16
@@ -28,8 +30,8 @@ fn shift_counts(top: u16, tenths: u16, counts: u32) -> u16
 }
 
 // What each setpoint of a switch moves by at c: −s mod SF. Like signs make s positive.
-pub fn displacement(top: u16, a: Advance, c: Travel) -> u16
-    ensures { λ r. ⌜ r ≡ moved (top + 1) (advanceValue a) (travelValue c) 0 ⌝ }
+pub fn displacement(top: u16, a: Advance, c: Movement) -> u16
+    ensures { λ r. ⌜ r ≡ moved (top + 1) (advanceValue a) (movementValue c) 0 ⌝ }
 {
     if a.tenths == 0 {
         return 0;
@@ -110,8 +112,8 @@ fn some_pair(top: u16, onmove: u16, offmove: u16, setpoints: [u16; 16], p: u16) 
 }
 
 // Pair k of a switch holds at c.
-pub fn pair_holds(top: u16, c: Travel, l: Limit, k: u16, p: Position) -> bool
-    ensures { λ r. ⌜ r ≡ pairHolds (top + 1) (travelValue c) l k p ⌝ }
+pub fn pair_holds(top: u16, c: Movement, l: Limit, k: u16, p: Position) -> bool
+    ensures { λ r. ⌜ r ≡ pairHolds (top + 1) (movementValue c) l k p ⌝ }
 {
     let s = l.setpoints;
     let i = 2 * k as usize;
@@ -128,8 +130,8 @@ pub fn pair_holds(top: u16, c: Travel, l: Limit, k: u16, p: Position) -> bool
 }
 
 // Normal: some used pair holds. The displacements are worked out once for all its pairs.
-pub fn normal_holds(top: u16, c: Travel, l: Limit, p: Position) -> bool
-    ensures { λ r. ⌜ r ≡ normalHolds (top + 1) (travelValue c) l p ⌝ }
+pub fn normal_holds(top: u16, c: Movement, l: Limit, p: Position) -> bool
+    ensures { λ r. ⌜ r ≡ normalHolds (top + 1) (movementValue c) l p ⌝ }
 {
     let s = l.setpoints;
     let onmove = displacement(top, l.onadvance, c);
@@ -179,8 +181,8 @@ pub fn pulse_on(r: u16, q: u16, k: u16, at: u16) -> bool
 }
 
 // A pulse switch at c: R from the unmoved pair, the train from the ON setpoint moved by the ON advance.
-fn pulse_holds(top: u16, c: Travel, l: Limit, q: u16, k: u16, p: Position) -> bool
-    ensures { λ b. ⌜ b ≡ pulseHolds (top + 1) (travelValue c) l q k p ⌝ }
+fn pulse_holds(top: u16, c: Movement, l: Limit, q: u16, k: u16, p: Position) -> bool
+    ensures { λ b. ⌜ b ≡ pulseHolds (top + 1) (movementValue c) l q k p ⌝ }
 {
     let s = l.setpoints;
     let on = s[0];
@@ -198,10 +200,10 @@ fn pulse_holds(top: u16, c: Travel, l: Limit, q: u16, k: u16, p: Position) -> bo
 }
 
 // A switch holds. `lasting` says of a timed one that its time has not run out.
-pub fn switch_holds(top: u16, c: Travel, l: Limit, p: Position, lasting: bool) -> bool
-    ensures { λ r. ⌜ r ≡ switchHolds (top + 1) (travelValue c) l (l .switch) p lasting ⌝ }
+pub fn switch_holds(top: u16, c: Movement, l: Limit, p: Position, lasting: bool) -> bool
+    ensures { λ r. ⌜ r ≡ switchHolds (top + 1) (movementValue c) l (limitSwitch l) p lasting ⌝ }
 {
-    let s = l.switch;
+    let s = switch_of(l.action);
     match s {
         Switch::Unprogrammed => false,
         Switch::Normal => normal_holds(top, c, l, p),

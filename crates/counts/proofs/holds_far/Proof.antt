@@ -1,5 +1,5 @@
 -- `counts::holds_far` meets its contract: the two differences compared. Assumes nothing.
-use Rattle.rules.specs.Groups.{holds}
+use Rattle.rules.specs.Counts.{holds}
 use borrow.Author.Needs.{needs}
 use Rattle.counts.proofs.holds_far.Statement.{statement}
 use Rattle.counts.proofs.holds_far.Tie as tie

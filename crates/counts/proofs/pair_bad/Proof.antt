@@ -2,7 +2,7 @@
 use Prim.Native.Nat.{_+_}
 use native.Mathlib.Omega.{arith}
 use borrow.Author.Tests.{le-leb, lt-leb, eq-eqb, ne-eqb}
-use Rattle.rules.specs.Programming.{pairBad}
+use Rattle.rules.specs.Counts.{pairBad}
 use Rattle.counts.proofs.pair_bad.Statement.{statement}
 use Rattle.counts.proofs.pair_bad.Tie as tie
 

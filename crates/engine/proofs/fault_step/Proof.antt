@@ -1,23 +1,53 @@
 -- `engine::fault_step` meets its contract: the calls put together. Assumes nothing.
-use borrow.Author.Needs.{needs}
-use Rattle.rules.specs.Card.{moduleStart}
-use Rattle.engine.specs.Calls.{faultChange}
+use mathlib.Core.Path.{_≡_, refl}
+use Rattle.rules.specs.Card.{outputsNow, moduleStart, sinceNow, keptNow, stepState, stepAnswer}
+use Rattle.engine.proofs.Words.{words-none}
 use Rattle.engine.proofs.fault_step.Statement.{statement}
 use Rattle.engine.proofs.fault_step.Tie as tie
 
-output-words-requires : tie.Need-output-words-requires
-output-words-requires c κs = search needs
+-- the words of outputs
+both : (c : tie.After-output-words) →
+    (let w = c .before .before in
+    let a = w .before .before .before .before .before .args in
+    c .output-words .result ≡ outputsNow (a .m .configuration) (a .m .state .since) (a .s))
+unfolding outputsNow
+both c =
+    let i = c .before .before .before .before .before .before in
+    rw (c .output-words .ensures, c .before .model-of .ensures, i .before .pre) (words-none _ _)
 
-fault-answer-requires : tie.Need-fault-answer-requires
-fault-answer-requires c κs = search needs
+fault-conditions-requires : tie.Need-fault-conditions-requires
+fault-conditions-requires c κs = tt
+
+model-of-requires : tie.Need-model-of-requires
+model-of-requires c κs = tt
+
+output-words-requires : tie.Need-output-words-requires
+output-words-requires c κs = tt
+
+answer-of-requires : tie.Need-answer-of-requires
+answer-of-requires c κs = tt
 
 timed-at-rest-requires : tie.Need-timed-at-rest-requires
-timed-at-rest-requires c κs = search needs
+timed-at-rest-requires c κs = tt
 
 returns : tie.Need-returns
-unfolding faultChange moduleStart
-returns c = rw (c .timed-at-rest .ensures, c .before .fault-answer .ensures, c .before .before .output-words .ensures)
+unfolding moduleStart stepState sinceNow keptNow stepAnswer
+returns c =
+    let o = c .before .before in
+    let i = o .before .before .before .before .before .before in (
+      rw (c .timed-at-rest .ensures, both o, i .before .pre),
+      rw (c .before .answer-of .ensures, both o, o .before .before .fault-conditions .ensures, i .before .pre),
+      refl,
+      refl,
+    )
 
 pub fault-step-spec : {M : Type 1} → statement M
 fault-step-spec =
-    tie.close (tie.spec output-words-requires fault-answer-requires timed-at-rest-requires returns)
+    tie.close
+    (tie.spec
+    fault-conditions-requires
+    model-of-requires
+    output-words-requires
+    answer-of-requires
+    timed-at-rest-requires
+    returns)

@@ -1,44 +1,75 @@
 -- `engine::sound_step` meets its contract: the calls put together. Assumes nothing.
-use borrow.Author.Needs.{needs}
-use Rattle.rules.specs.Card.{speedAt}
-use Rattle.engine.specs.Calls.{soundChange}
+use mathlib.Core.Path.{_≡_, refl}
+use Rattle.rules.specs.Motion.{conditions, machineAt}
+use Rattle.rules.specs.Card.{conditionsNow, outputsNow, sinceNow, keptNow, stepState, stepAnswer}
+use Rattle.rules.specs.declared.Configuration.{Configuration}
+use Rattle.rules.specs.declared.SinceStart.{SinceStart}
+use Rattle.rules.specs.declared.Sample.{Sample}
+use Rattle.engine.proofs.Words.{words-packed}
 use Rattle.engine.proofs.sound_step.Statement.{statement}
 use Rattle.engine.proofs.sound_step.Tie as tie
 
-speed-at-requires : tie.Need-speed-at-requires
-speed-at-requires c κs = search needs
+-- Machine Position among what the step reads
+machine-is : (g : Configuration) (x : SinceStart) (s : Sample) → conditionsNow g x s .machine ≡ machineAt g s
+unfolding conditionsNow conditions
+machine-is g x s = refl
 
-reading-of-requires : tie.Need-reading-of-requires
-reading-of-requires c κs = search needs
+conditioned : (c : tie.After-conditions-of) →
+    (let a = c .before .before .before .before .before .before .args in c .conditions-of .result ≡ conditionsNow (a .m .configuration) (a .m .state .since) (a .s))
+unfolding conditionsNow
+conditioned c = rw (c .conditions-of .ensures, c .before .speed-now .ensures)
 
-groups-after-requires : tie.Need-groups-after-requires
-groups-after-requires c κs = search needs
+-- the words of outputs
+both : (c : tie.After-output-words) →
+    (let k = c .before .before .before in
+    let a = k .before .before .before .before .before .before .args in
+    c .output-words .result ≡ outputsNow (a .m .configuration) (a .m .state .since) (a .s))
+unfolding outputsNow
+both c =
+    let k = c .before .before .before in
+    let i = k .before .before .before .before .before .before in
+    rw (c .output-words .ensures, c .before .model-of .ensures, c .before .before .since-after .ensures .1, conditioned k, i .pre)
+    (words-packed _ _ _)
 
-outputs-after-requires : tie.Need-outputs-after-requires
-outputs-after-requires c κs = search needs
+speed-now-requires : tie.Need-speed-now-requires
+speed-now-requires c κs = tt
+
+conditions-of-requires : tie.Need-conditions-of-requires
+conditions-of-requires c κs = tt
+
+since-after-requires : tie.Need-since-after-requires
+since-after-requires c κs = tt
+
+model-of-requires : tie.Need-model-of-requires
+model-of-requires c κs = tt
 
 output-words-requires : tie.Need-output-words-requires
-output-words-requires c κs = search needs
+output-words-requires c κs = tt
 
-state-after-requires : tie.Need-state-after-requires
-state-after-requires c κs = search needs
-
-sound-answer-requires : tie.Need-sound-answer-requires
-sound-answer-requires c κs = search needs
+answer-of-requires : tie.Need-answer-of-requires
+answer-of-requires c κs = tt
 
 returns : tie.Need-returns
-unfolding soundChange speedAt
-returns c = rw (c .sound-answer .ensures, c .before .state-after .ensures, c .before .before .before .output-words .ensures, c .before .before .before .before .outputs-after .ensures, c .before .before .before .before .before .before .before .before .before .before .groups-after .ensures, c .before .before .before .before .before .before .before .before .before .before .before .before .before .reading-of .ensures, c .before .before .before .before .before .before .before .before .before .before .before .before .before .before .speed-at .ensures)
+unfolding stepState sinceNow keptNow stepAnswer
+returns c =
+    let o = c .before .before .before in
+    let k = o .before .before .before in
+    let i = k .before .before .before .before .before .before in
+    let a = i .args in (
+      rw (both o, o .before .before .since-after .ensures .0, conditioned k, k .before .speed-now .ensures, machine-is (a .m .configuration) (a .m .state .since) (a .s), i .pre),
+      rw (c .before .before .answer-of .ensures, both o, conditioned k, i .pre),
+      refl,
+      refl,
+    )
 
 pub sound-step-spec : {M : Type 1} → statement M
 sound-step-spec =
     tie.close
     (tie.spec
-    speed-at-requires
-    reading-of-requires
-    groups-after-requires
-    outputs-after-requires
+    speed-now-requires
+    conditions-of-requires
+    since-after-requires
+    model-of-requires
     output-words-requires
-    state-after-requires
-    sound-answer-requires
+    answer-of-requires
     returns)

@@ -1,6 +1,6 @@
 -- `engine::timed_at_rest` meets its contract: one element more is as at a start at each turn, from the highest down. Assumes nothing.
 use Prim.Native.Nat.{ℕ, _≤_, _-_}
-use mathlib.Core.Path.{_≡_, refl}
+use mathlib.Core.Path.{refl}
 use native.Mathlib.Omega.{arith}
 use borrow.Author.Needs.{needs}
 use Rattle.rules.specs.declared.TimedState.{TimedState}

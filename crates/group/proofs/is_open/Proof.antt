@@ -22,6 +22,9 @@ enum-told-5 c = search needs
 enum-told-6 : tie.Need-enum-told-6
 enum-told-6 c = search needs
 
+enum-told-7 : tie.Need-enum-told-7
+enum-told-7 c = search needs
+
 returns : tie.Need-returns
 unfolding isOpen
 returns c = search needs
@@ -46,6 +49,10 @@ returns-6 : tie.Need-returns-6
 unfolding isOpen
 returns-6 c = search needs
 
+returns-7 : tie.Need-returns-7
+unfolding isOpen
+returns-7 c = search needs
+
 pub is-open-spec : {M : Type 1} → statement M
 is-open-spec =
     tie.close
@@ -56,9 +63,11 @@ is-open-spec =
     enum-told-4
     enum-told-5
     enum-told-6
+    enum-told-7
     returns
     returns-2
     returns-3
     returns-4
     returns-5
-    returns-6)
+    returns-6
+    returns-7)

@@ -22,6 +22,9 @@ enum-told-5 c = search needs
 enum-told-6 : tie.Need-enum-told-6
 enum-told-6 c = search needs
 
+enum-told-7 : tie.Need-enum-told-7
+enum-told-7 c = search needs
+
 returns : tie.Need-returns
 unfolding presets
 returns c = search needs
@@ -46,6 +49,10 @@ returns-6 : tie.Need-returns-6
 unfolding presets
 returns-6 c = search needs
 
+returns-7 : tie.Need-returns-7
+unfolding presets
+returns-7 c = search needs
+
 pub presets-spec : {M : Type 1} → statement M
 presets-spec =
     tie.close
@@ -56,9 +63,11 @@ presets-spec =
     enum-told-4
     enum-told-5
     enum-told-6
+    enum-told-7
     returns
     returns-2
     returns-3
     returns-4
     returns-5
-    returns-6)
+    returns-6
+    returns-7)

@@ -6,12 +6,6 @@ use Rattle.motion.proofs.Laws.{biased-natural}
 use Rattle.motion.proofs.biased_movement.Statement.{statement}
 use Rattle.motion.proofs.biased_movement.Tie as tie
 
-enum-told : tie.Need-enum-told
-enum-told c = search needs
-
-enum-known-last : tie.Need-enum-known-last
-enum-known-last c = search needs
-
 cast-result : tie.Need-cast-result
 cast-result c = search needs
 
@@ -29,23 +23,15 @@ cast-result-2 c = search needs
 
 returns : tie.Need-returns
 unfolding biasedMovement
-returns c = rw (c .enum-told .given .1)
+returns c =
+    let a = c .before .before .args in
+    rw (c .before .if1 .taken) (sym (biased-natural (a .last .at) (a .q)))
 
 returns-2 : tie.Need-returns-2
-returns-2 c =
-    let l = c .before .last .given in
-    rw (l .1) (sym (biased-natural (l .0 .0) (c .before .before .before .args .q)))
+unfolding biasedMovement
+returns-2 c = rw (c .if1 .left)
 
 pub biased-movement-spec : {M : Type 1} → statement M
 biased-movement-spec =
     tie.close
-    (tie.spec
-    enum-told
-    enum-known-last
-    cast-result
-    sub-result
-    add-result
-    add-result-2
-    cast-result-2
-    returns
-    returns-2)
+    (tie.spec cast-result sub-result add-result add-result-2 cast-result-2 returns returns-2)

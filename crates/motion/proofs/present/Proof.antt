@@ -1,7 +1,7 @@
 -- `motion::present` meets its contract: each word is computed. Assumes nothing.
 use borrow.Author.Needs.{needs}
 use Rattle.rules.specs.Words.{packed}
-use Rattle.rules.specs.Motion.{realCount}
+use Rattle.rules.specs.Variants.{realCount}
 use Rattle.motion.proofs.present.Statement.{statement}
 use Rattle.motion.proofs.present.Tie as tie
 
@@ -13,6 +13,9 @@ enum-told-2 c = search needs
 
 enum-told-3 : tie.Need-enum-told-3
 enum-told-3 c = search needs
+
+enum-told-4 : tie.Need-enum-told-4
+enum-told-4 c = search needs
 
 returns : tie.Need-returns
 unfolding packed realCount
@@ -26,5 +29,11 @@ returns-3 : tie.Need-returns-3
 unfolding packed realCount
 returns-3 c = rw (c .enum-told3 .given .1)
 
+returns-4 : tie.Need-returns-4
+unfolding packed realCount
+returns-4 c = rw (c .enum-told4 .given .1)
+
 pub present-spec : {M : Type 1} → statement M
-present-spec = tie.close (tie.spec enum-told enum-told-2 enum-told-3 returns returns-2 returns-3)
+present-spec =
+    tie.close
+    (tie.spec enum-told enum-told-2 enum-told-3 enum-told-4 returns returns-2 returns-3 returns-4)

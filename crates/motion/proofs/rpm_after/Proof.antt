@@ -2,7 +2,7 @@
 use mathlib.Core.Path.{sym, _∙_}
 use borrow.Author.Needs.{needs}
 use Rattle.rules.specs.Card.{rpmAfter}
-use Rattle.motion.proofs.Laws.{rpm-travel}
+use Rattle.motion.proofs.Laws.{rpm-movement}
 use Rattle.motion.proofs.rpm_after.Statement.{statement}
 use Rattle.motion.proofs.rpm_after.Tie as tie
 
@@ -15,8 +15,8 @@ updates-requires c κs = search needs
 window-sum-requires : tie.Need-window-sum-requires
 window-sum-requires c κs = search needs
 
-travel-of-requires : tie.Need-travel-of-requires
-travel-of-requires c κs = search needs
+window-movement-requires : tie.Need-window-movement-requires
+window-movement-requires c κs = search needs
 
 rpm-of-requires : tie.Need-rpm-of-requires
 rpm-of-requires c κs = search needs
@@ -28,8 +28,8 @@ returns c =
       ← c .before .before .before .before .before .before .window-steps .ensures,
       sym (c .before .before .before .before .updates .ensures) ∙ c .before .before .before .if1 .taken,
       ← c .before .before .window-sum .ensures,
-      ← c .before .travel-of .ensures,
-      rpm-travel (c .before .before .before .before .before .before .before .args .fast) (c .before .travel-of .result),
+      ← c .before .window-movement .ensures,
+      rpm-movement _ (c .before .window-movement .result),
     )
     (c .rpm-of .ensures)
 
@@ -45,7 +45,7 @@ rpm-after-spec =
     window-steps-requires
     updates-requires
     window-sum-requires
-    travel-of-requires
+    window-movement-requires
     rpm-of-requires
     returns
     returns-2)

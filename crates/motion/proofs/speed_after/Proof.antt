@@ -16,8 +16,8 @@ window-steps-requires c κs = search needs
 window-after-requires-2 : tie.Need-window-after-requires-2
 window-after-requires-2 c κs = search needs
 
-travel-after-requires : tie.Need-travel-after-requires
-travel-after-requires c κs = search needs
+c-after-requires : tie.Need-c-after-requires
+c-after-requires c κs = search needs
 
 rpm-after-requires : tie.Need-rpm-after-requires
 rpm-after-requires c κs = search needs
@@ -27,7 +27,7 @@ unfolding speedAfter
 returns c =
     rw (
       c .rpm-after .ensures,
-      c .before .travel-after .ensures,
+      c .before .c-after .ensures,
       c .before .before .window-after2 .ensures,
       c .before .before .before .window-steps .ensures,
       c .before .before .before .before .window-after .ensures,
@@ -42,6 +42,6 @@ speed-after-spec =
     window-after-requires
     window-steps-requires
     window-after-requires-2
-    travel-after-requires
+    c-after-requires
     rpm-after-requires
     returns)

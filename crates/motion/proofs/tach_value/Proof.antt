@@ -10,16 +10,19 @@ use Rattle.motion.proofs.tach_value.Statement.{statement}
 use Rattle.motion.proofs.tach_value.Tie as tie
 
 -- the divisor is from 1 to 65536 × 1000, the product at most that of 32 and 16 bits
-divisor-le : (c : tie.After-power-of-ten) → (c .before .before .args .k .divider + 1) * c .power-of-ten .result ≤ 65536 * 1000
+divisor-le : (c : tie.After-power-of-ten) → (c .before .before .before .args .k .divider + 1) * c .power-of-ten .result ≤ 65536 * 1000
 divisor-le c =
-    mul-le-mul {n₂ = 65536} {m₂ = 1000} (search needs) (omega (arith, c .power-of-ten .ensures, power-range (c .before .before .args .k .code)))
+    mul-le-mul {n₂ = 65536} {m₂ = 1000} (search needs) (omega (arith, c .power-of-ten .ensures, power-range (c .before .before .code-of .result)))
 
-divisor-pos : (c : tie.After-power-of-ten) → 1 * 1 ≤ (c .before .before .args .k .divider + 1) * c .power-of-ten .result
+divisor-pos : (c : tie.After-power-of-ten) → 1 * 1 ≤ (c .before .before .before .args .k .divider + 1) * c .power-of-ten .result
 divisor-pos c =
-    mul-le-mul {n₁ = 1} {m₁ = 1} (omega arith) (omega (arith, c .power-of-ten .ensures, power-range (c .before .before .args .k .code)))
+    mul-le-mul {n₁ = 1} {m₁ = 1} (omega arith) (omega (arith, c .power-of-ten .ensures, power-range (c .before .before .code-of .result)))
 
-product-le : (c : tie.After-struct-known2) → c .before .before .before .args .rpm * c .before .before .before .args .k .multiplier ≤ 4294967295 * 65535
+product-le : (c : tie.After-struct-known2) → c .before .before .before .before .args .rpm * c .before .before .before .before .args .k .multiplier ≤ 4294967295 * 65535
 product-le c = mul-le-mul {n₂ = 4294967295} {m₂ = 65535} (search needs) (search needs)
+
+code-of-requires : tie.Need-code-of-requires
+code-of-requires c κs = search needs
 
 cast-d : tie.Need-cast-d
 cast-d c = search needs
@@ -56,12 +59,13 @@ div-result c = omega (arith, divisor-pos (c .before))
 
 returns : tie.Need-returns
 unfolding tachValue roundHalfUp
-returns c = rw (c .before .power-of-ten .ensures)
+returns c = rw (c .before .power-of-ten .ensures, c .before .before .before .code-of .ensures)
 
 pub tach-value-spec : {M : Type 1} → statement M
 tach-value-spec =
     tie.close
     (tie.spec
+    code-of-requires
     cast-d
     add-d
     power-of-ten-requires

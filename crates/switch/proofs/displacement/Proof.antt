@@ -26,9 +26,10 @@ shift-counts-requires c κs = search needs
 returns-3 : tie.Need-returns-3
 unfolding xor
 returns-3 c =
-    let x = c .before .before .before .before .before .before .before .before .args in
+    let s = c .before .before .before in
+    let x = s .before .before .before .before .before .args in
     let e : xor (x .a .negative) (x .c .negative) ≡ true = c .if3 .taken in
-    rw (displacement-of (x .top) (x .a .negative) (x .c .negative) (x .a .tenths) (x .c .counts), e) (c .before .before .before .shift-counts .ensures)
+    rw (displacement-of (x .top) (x .a .negative) (x .c .negative) (x .a .tenths) (x .c .counts), e) (s .shift-counts .ensures)
 
 ahead-requires : tie.Need-ahead-requires
 ahead-requires c κs = search needs
@@ -36,9 +37,10 @@ ahead-requires c κs = search needs
 returns-4 : tie.Need-returns-4
 unfolding xor
 returns-4 c =
-    let x = c .before .before .before .before .before .before .before .before .before .args in
+    let s = c .before .before .before .before in
+    let x = s .before .before .before .before .before .args in
     let e : xor (x .a .negative) (x .c .negative) ≡ false = c .before .if3 .left in
-    rw (displacement-of (x .top) (x .a .negative) (x .c .negative) (x .a .tenths) (x .c .counts), e, ← c .before .before .before .before .shift-counts .ensures) (c .ahead .ensures)
+    rw (displacement-of (x .top) (x .a .negative) (x .c .negative) (x .a .tenths) (x .c .counts), e, ← s .shift-counts .ensures) (c .ahead .ensures)
 
 pub displacement-spec : {M : Type 1} → statement M
 displacement-spec =

@@ -1,6 +1,6 @@
 -- `switch::pair_holds` meets its contract: both setpoints by their displacements. Assumes nothing.
 use Rattle.switch.proofs.Pairs.{pair-moved}
-use Rattle.rules.specs.Motion.{travelValue}
+use Rattle.rules.specs.Motion.{movementValue}
 use borrow.Author.Needs.{needs}
 use Rattle.switch.proofs.pair_holds.Statement.{statement}
 use Rattle.switch.proofs.pair_holds.Tie as tie
@@ -31,8 +31,17 @@ pair-at-requires c κs = search needs
 
 returns : tie.Need-returns
 returns c =
-    let x = c .before .before .before .before .before .before .before .args in
-    rw (pair-moved (x .top) (travelValue (x .c)) (x .l) (x .k) (x .p), c .pair-at .ensures, c .before .count-at .ensures, c .before .before .setpoint2 .ensures, c .before .before .before .setpoint .ensures, c .before .before .before .before .displacement2 .ensures, c .before .before .before .before .before .displacement .ensures)
+    let d = c .before .before .before .before in
+    let x = d .before .before .before .args in
+    rw (
+      pair-moved (x .top) (movementValue (x .c)) (x .l) (x .k) (x .p),
+      c .pair-at .ensures,
+      c .before .count-at .ensures,
+      c .before .before .setpoint2 .ensures,
+      c .before .before .before .setpoint .ensures,
+      d .displacement2 .ensures,
+      d .before .displacement .ensures,
+    )
 
 pub pair-holds-spec : {M : Type 1} → statement M
 pair-holds-spec =

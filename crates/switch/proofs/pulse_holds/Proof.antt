@@ -1,8 +1,9 @@
 -- `switch::pulse_holds` meets its contract: the train from the moved ON setpoint, where the pair is used. Assumes nothing.
 use Rattle.switch.proofs.Advance.{moved-by}
-use Rattle.rules.specs.Switches.{advanceValue, onSetpoint, pulseHolds}
-use Rattle.rules.specs.Motion.{travelValue}
-use mathlib.Core.Path.{sym, _∙_}
+use Rattle.rules.specs.Switches.{advanceValue, moved, onSetpoint, pulseHolds}
+use Rattle.rules.specs.Motion.{movementValue}
+use Prim.Native.Nat.{_+_}
+use mathlib.Core.Path.{_≡_, sym, _∙_}
 use borrow.Author.Needs.{needs}
 use Rattle.switch.proofs.pulse_holds.Statement.{statement}
 use Rattle.switch.proofs.pulse_holds.Tie as tie
@@ -34,11 +35,28 @@ ahead-requires-2 c κs = search needs
 pulse-on-requires : tie.Need-pulse-on-requires
 pulse-on-requires c κs = search needs
 
+-- where the train starts
+start : (c : tie.After-sum) →
+    (let x = c .before .before .before .before .before .args in
+    c .sum .result ≡ moved (x .top + 1) (advanceValue (x .l .onadvance)) (movementValue (x .c)) (onSetpoint (x .l) 0))
+start c =
+    let x = c .before .before .before .before .before .args in
+    rw (c .sum .ensures, c .before .displacement .ensures)
+    (sym (moved-by (x .top) (advanceValue (x .l .onadvance)) (movementValue (x .c)) (onSetpoint (x .l) 0)))
+
 returns : tie.Need-returns
 unfolding pulseHolds
 returns c =
-    let x = c .before .before .before .before .before .before .before .before .before .args in
-    rw (moved-by (x .top) (advanceValue (x .l .onadvance)) (travelValue (x .c)) (onSetpoint (x .l) 0), sym (c .before .before .before .before .before .before .before .used-pair .ensures) ∙ c .before .before .before .before .before .before .if1 .taken, c .pulse-on .ensures, c .before .ahead2 .ensures, c .before .before .count-at .ensures, c .before .before .before .ahead .ensures, c .before .before .before .before .sum .ensures, c .before .before .before .before .before .displacement .ensures)
+    let b = c .before .before .before .before in
+    let u = b .before .before .before in
+    rw (
+      sym (u .used-pair .ensures) ∙ b .before .before .if1 .taken,
+      c .pulse-on .ensures,
+      c .before .ahead2 .ensures,
+      c .before .before .count-at .ensures,
+      c .before .before .before .ahead .ensures,
+      start b,
+    )
 
 returns-2 : tie.Need-returns-2
 unfolding pulseHolds

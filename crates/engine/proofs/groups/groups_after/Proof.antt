@@ -1,23 +1,34 @@
 -- `engine::groups::groups_after` meets its contract: one group more of each table at each turn. Assumes nothing.
-use Prim.Native.Nat.{_≤_, _-_}
-use mathlib.Core.Bool.{false}
-use mathlib.Core.Path.{refl, _≡_, ap}
+use Prim.Native.Nat.{ℕ, _≤_, _-_}
+use mathlib.Core.Bool.{Bool, false}
+use mathlib.Core.List.{List}
+use mathlib.Core.Path.{refl, _≡_}
 use native.Mathlib.Omega.{arith}
-use lib.ListN.{replicate}
+use lib.ListN.{getD, replicate}
 use borrow.Author.Needs.{needs}
-use Rattle.rules.specs.Card.{noPosition}
-use Rattle.engine.specs.Groups.{groupOf, groupsIn}
-use Rattle.engine.specs.declared.groups.GroupAfter.{GroupAfter}
+use Rattle.rules.specs.declared.Conditions.{Conditions}
+use Rattle.rules.specs.declared.Group.{Group}
+use Rattle.rules.specs.declared.GroupState.{GroupState}
+use Rattle.rules.specs.declared.GroupPosition.{GroupPosition}
+use Rattle.rules.specs.Groups.{noGroup, noPosition}
+use Rattle.rules.specs.Card.{freshGroup, groupNow, leftPosition, openNow, groupsNow, positionsNow, opennessNow}
 use Rattle.engine.proofs.Lists.{FilledUp, up-none, up-more, up-all}
 use Rattle.engine.proofs.groups.groups_after.Statement.{statement}
 use Rattle.engine.proofs.groups.groups_after.Tie as tie
 
+-- of six groups the one at n
+abbrev stateAt : Conditions → List Group → List GroupState → ℕ → GroupState
+stateAt w gs xs n = groupNow w (getD gs n noGroup) (getD xs n freshGroup) n
+
+abbrev positionAt : Conditions → List Group → List GroupState → ℕ → GroupPosition
+positionAt w gs xs n = leftPosition w (getD gs n noGroup) (getD xs n freshGroup) n
+
+abbrev openAt : Conditions → List Group → List GroupState → ℕ → Bool
+openAt w gs xs n = openNow w (getD gs n noGroup) (getD xs n freshGroup) n
+
 abbrev Inv-loop : tie.InvT-loop
 Inv-loop w gs xs states₀ positions₀ isopen₀ n₀ states positions isopen n =
-    (n ≤ 6)
-    × FilledUp 6 n (λ k. groupOf w gs xs k .state) states
-    × FilledUp 6 n (λ k. groupOf w gs xs k .position) positions
-    × FilledUp 6 n (λ k. groupOf w gs xs k .isopen) isopen
+    (n ≤ 6) × FilledUp 6 n (stateAt w gs xs) states × FilledUp 6 n (positionAt w gs xs) positions × FilledUp 6 n (openAt w gs xs) isopen
 
 abbrev μ-loop : tie.MeasureT-loop
 μ-loop w gs xs states₀ positions₀ isopen₀ n₀ states positions isopen n = 6 - n
@@ -26,9 +37,9 @@ loop-holds : tie.Need-loop-holds Inv-loop μ-loop
 loop-holds c =
     let a = c .args in (
       omega arith,
-      up-none 6 (λ k. groupOf (a .w) (a .t2) (a .t3) k .state) (a .t3) (search needs),
-      up-none 6 (λ k. groupOf (a .w) (a .t2) (a .t3) k .position) (replicate 6 noPosition) refl,
-      up-none 6 (λ k. groupOf (a .w) (a .t2) (a .t3) k .isopen) (replicate 6 false) refl,
+      up-none 6 (stateAt (a .w) (a .t2) (a .t3)) (a .t3) (search needs),
+      up-none 6 (positionAt (a .w) (a .t2) (a .t3)) (replicate 6 noPosition) refl,
+      up-none 6 (openAt (a .w) (a .t2) (a .t3)) (replicate 6 false) refl,
     )
 
 mul-g : tie.Need-mul-g Inv-loop μ-loop
@@ -72,21 +83,22 @@ loop-less c = search needs
 
 loop-again : tie.Need-loop-again Inv-loop μ-loop
 loop-again c =
-    let l = c .before .before .before .before .before .before .loop in
-    let a = c .before .before .before .before .before .before .before .args in
-    let r : c .before .before .group-after .result ≡ groupOf (a .w) (a .t2) (a .t3) (l .n) = c .before .before .group-after .ensures in (
+    let t = c .before .before .before .before .before .before in
+    let l = t .loop in
+    let a = t .before .args in
+    let r = c .before .before .group-after .ensures in (
       omega arith,
-      up-more 6 (l .n) (λ k. groupOf (a .w) (a .t2) (a .t3) k .state) (l .states) _ (omega arith) (l .inv .1) (ap (λ (g : GroupAfter). g .state) r),
-      up-more 6 (l .n) (λ k. groupOf (a .w) (a .t2) (a .t3) k .position) (l .positions) _ (omega arith) (l .inv .2) (ap (λ (g : GroupAfter). g .position) r),
-      up-more 6 (l .n) (λ k. groupOf (a .w) (a .t2) (a .t3) k .isopen) (l .isopen) _ (omega arith) (l .inv .3) (ap (λ (g : GroupAfter). g .isopen) r),
+      up-more 6 (l .n) (stateAt (a .w) (a .t2) (a .t3)) (l .states) _ (omega arith) (l .inv .1) (r .0),
+      up-more 6 (l .n) (positionAt (a .w) (a .t2) (a .t3)) (l .positions) _ (omega arith) (l .inv .2) (r .1),
+      up-more 6 (l .n) (openAt (a .w) (a .t2) (a .t3)) (l .isopen) _ (omega arith) (l .inv .3) (r .2),
     )
 
 returns : tie.Need-returns Inv-loop μ-loop
-unfolding groupsIn
+unfolding groupsNow positionsNow opennessNow
 returns c =
     let l = c .before .loop in
     let e : l .n ≡ 6 = omega arith in
-    rw (up-all 6 (l .n) _ (l .states) e (l .inv .1), up-all 6 (l .n) _ (l .positions) e (l .inv .2), up-all 6 (l .n) _ (l .isopen) e (l .inv .3))
+    (up-all 6 (l .n) _ (l .states) e (l .inv .1), up-all 6 (l .n) _ (l .positions) e (l .inv .2), up-all 6 (l .n) _ (l .isopen) e (l .inv .3))
 
 pub groups-after-spec : {M : Type 1} → statement M
 groups-after-spec =

@@ -1,36 +1,23 @@
--- `engine::outputs::group_open` meets its contract: none, past the six, or one of them. Assumes nothing.
-use mathlib.Core.Bool.{true, false}
-use mathlib.Core.Path.{_≡_, sym}
+-- `engine::outputs::group_open` meets its contract: no group, or one of the six. Assumes nothing.
+use mathlib.Core.Bool.{false}
+use mathlib.Core.Path.{sym}
 use native.Mathlib.Omega.{arith}
-use lib.ListN.{length, List·getD-eq-default}
+use Rattle.engine.proofs.Lists.{a-group, of-some, of-none}
 use borrow.Author.Needs.{needs}
-use borrow.Author.Tests.{eq-eqb, ne-eqb}
-use Rattle.engine.specs.Outputs.{openIn}
-use Rattle.engine.proofs.Lists.{getD-inside}
 use Rattle.engine.proofs.outputs.group_open.Statement.{statement}
 use Rattle.engine.proofs.outputs.group_open.Tie as tie
 
 returns : tie.Need-returns
-unfolding openIn
-returns c = simp (eq-eqb _ _ (c .if1 .taken))
+returns c = let a = c .before .args in sym (of-none false (a .t1) (a .owner) (search needs) (c .if1 .taken))
 
-place-requires : tie.Need-place-requires
-place-requires c κs = search needs
-
-returns-2 : tie.Need-returns-2
-unfolding openIn
-returns-2 c = let a = c .before .before .before .args in
-    let l : length (a .t1) ≡ 6 = search needs in
-    rw (← c .before .place .ensures, ne-eqb _ _ (c .before .before .if1 .left)) (sym (List·getD-eq-default (a .t1) true (omega arith)))
+sub-at : tie.Need-sub-at
+sub-at c = omega (arith, a-group (c .before .args .owner) (c .if1 .left) .0)
 
 array-read-result : tie.Need-array-read-result
-array-read-result c = search needs
+array-read-result c = omega (arith, a-group (c .before .args .owner) (c .if1 .left))
 
-returns-3 : tie.Need-returns-3
-unfolding openIn
-returns-3 c = let a = c .before .before .before .args in
-    let l : length (a .t1) ≡ 6 = search needs in
-    rw (← c .before .place .ensures, ne-eqb _ _ (c .before .before .if1 .left)) (getD-inside (a .t1) (c .before .place .result) false true (omega arith))
+returns-2 : tie.Need-returns-2
+returns-2 c = let a = c .before .args in sym (of-some false (a .t1) (a .owner) (c .if1 .left))
 
 pub group-open-spec : {M : Type 1} → statement M
-group-open-spec = tie.close (tie.spec returns place-requires returns-2 array-read-result returns-3)
+group-open-spec = tie.close (tie.spec returns sub-at array-read-result returns-2)

@@ -1,9 +1,9 @@
--- `engine::answer::sound_answer` meets its contract: reading and overflow are tests on one value. Assumes nothing.
+-- `engine::answer::answer_of` meets its contract: reading and overflow are tests on one value. Assumes nothing.
 use borrow.Author.Needs.{needs}
-use Rattle.rules.specs.Motion.{tachReading, tachOverflow}
-use Rattle.engine.specs.Calls.{soundAnswerIn}
-use Rattle.engine.proofs.answer.sound_answer.Statement.{statement}
-use Rattle.engine.proofs.answer.sound_answer.Tie as tie
+use Rattle.rules.specs.Motion.{tachShown, tachOverflow}
+use Rattle.rules.specs.Switches.{answerOf}
+use Rattle.engine.proofs.answer.answer_of.Statement.{statement}
+use Rattle.engine.proofs.answer.answer_of.Tie as tie
 
 tach-value-requires : tie.Need-tach-value-requires
 tach-value-requires c κs = search needs
@@ -15,9 +15,9 @@ changed-count-requires : tie.Need-changed-count-requires
 changed-count-requires c κs = search needs
 
 returns : tie.Need-returns
-unfolding soundAnswerIn tachReading tachOverflow
+unfolding answerOf tachShown tachOverflow
 returns c = rw (c .changed-count .ensures, c .before .tach-shown .ensures, c .before .before .before .tach-value .ensures)
 
-pub sound-answer-spec : {M : Type 1} → statement M
-sound-answer-spec =
+pub answer-of-spec : {M : Type 1} → statement M
+answer-of-spec =
     tie.close (tie.spec tach-value-requires tach-shown-requires changed-count-requires returns)

@@ -14,8 +14,9 @@ use Rattle.rules.specs.declared.Group.{Group}
 use Rattle.rules.specs.declared.IoType.{IoType}
 use Rattle.rules.specs.declared.IoType.the-variants.{Real, Virtual}
 use Rattle.rules.specs.Words.{bit, table}
+use Rattle.rules.specs.Variants.{groupType}
 use Rattle.rules.specs.Groups.{noGroup}
-use Rattle.rules.specs.Programming.{groupWord, sameType, groupOf, dealtUpTo, dealtTo, ownersOf}
+use Rattle.rules.specs.GroupWords.{groupWord, usedBit, sameType, groupOf, dealtUpTo, dealtTo, ownersOf}
 use Rattle.group_block.specs.Blocks.{shareOf, ownerIn}
 
 -- a number over SF − 1 is one that SF does not exceed
@@ -29,7 +30,7 @@ both-real Real Virtual = refl
 both-real Virtual Real = refl
 both-real Virtual Virtual = refl
 
-share-picked : (used : Bool) (t : IoType) (g : Group) → g .used ≡ true → shareOf t (cond used g noGroup) ≡ cond (used && sameType t (g .kind)) (g .quantity) 0
+share-picked : (used : Bool) (t : IoType) (g : Group) → g .used ≡ true → shareOf t (cond used g noGroup) ≡ cond (used && sameType t (groupType g)) (g .quantity) 0
 unfolding shareOf
 share-picked true t g h = rw h
 share-picked false t g h = refl
@@ -38,7 +39,7 @@ share-picked false t g h = refl
 pub dealt-more : (file : List ℕ) (t : IoType) (n : ℕ) → dealtUpTo file t n + shareOf t (groupOf file (n + 1)) ≡ dealtUpTo file t (n + 1)
 unfolding dealtUpTo groupOf
 dealt-more file t n =
-    rw (add-one n) (ap (λ (x : ℕ). dealtUpTo file t n + x) (share-picked (bit (groupWord file (suc n) 0) 15) t _ refl))
+    rw (add-one n) (ap (λ (x : ℕ). dealtUpTo file t n + x) (share-picked (bit (groupWord file (suc n) 0) usedBit) t _ refl))
 
 share-passed : (own : Bool) (q n i : ℕ) (next : ℕ → ℕ) → cond own (cond (ltb i q) n (next (i - q))) (next i) ≡ cond (ltb i (cond own q 0)) n (next (i - cond own q 0))
 share-passed true q n i next = refl
@@ -51,7 +52,7 @@ pub dealt-turn : (t : IoType) (gs : List Group) (k i : ℕ) (d : Group) → k < 
 unfolding dealtTo shareOf
 dealt-turn t gs k i d h =
     rw (drop-cons gs k d h, add-one k)
-    (share-passed (getD gs k d .used && sameType t (getD gs k d .kind)) (getD gs k d .quantity) (suc k) i (dealtTo t (drop (suc k) gs) (suc k + 1)))
+    (share-passed (getD gs k d .used && sameType t (groupType (getD gs k d))) (getD gs k d .quantity) (suc k) i (dealtTo t (drop (suc k) gs) (suc k + 1)))
 
 pub owners-table : (gs : List Group) → table 32 0 (ownerIn gs) ≡ ownersOf gs
 unfolding table ownersOf ownerIn

@@ -7,11 +7,12 @@ use lib.Dec.{ltb}
 use Rattle.rules.specs.declared.IoType.{IoType}
 use Rattle.rules.specs.declared.IoType.the-variants.{Real, Virtual}
 use Rattle.rules.specs.declared.Group.{Group}
-use Rattle.rules.specs.Programming.{sameType, dealtTo}
+use Rattle.rules.specs.Variants.{groupType}
+use Rattle.rules.specs.GroupWords.{sameType, dealtTo}
 
 -- how many outputs of a type a group takes
 unfoldable pub shareOf : IoType → Group → ℕ
-shareOf t g = cond (g .used && sameType t (g .kind)) (g .quantity) 0
+shareOf t g = cond (g .used && sameType t (groupType g)) (g .quantity) 0
 
 -- the owner of output n, counted from 0
 unfoldable pub ownerIn : List Group → ℕ → ℕ

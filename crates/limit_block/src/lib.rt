@@ -1,19 +1,27 @@
 // One limit block of M1: its checks, the bits of word 630, and the program that it gives. `top` is the scale factor less one.
 
-ghost use mathlib.Core.Bool.{false, _||_};
+ghost use mathlib.Core.Bool.{false, _&&_, _||_};
 ghost use mathlib.Core.List.{[], _∷_};
 ghost use mathlib.Core.Path.{_≡_};
-ghost use Prim.Native.Nat.{_+_, _-_, _*_, _%_};
+ghost use Prim.Native.Nat.{_+_, _-_};
+ghost use lib.Dec.{leb, ltb, eqb};
 ghost use lib.IntN.{natAbs};
+ghost use Rattle.rules.specs.Words.{word, bits, signedWord, someOf, table};
 ghost use Rattle.rules.specs.Switches as switches;
-ghost use Rattle.rules.specs.Words.{bits, signedWord, someOf, table};
-ghost use Rattle.rules.specs.Programming.{allZero, controlBad, advanceBad, limitPairBad, setpointBad, fifthTimed, pulseBad, pulsesTouch, blockBits, advanceOf, andedOf, switchOf, setpointOf, limitFrom};
-ghost use Rattle.limit_block.specs.Parts.{someTouch, blockOf, timedBlock, durationBit, lengthBit, touchBit, limitOfBlock};
+ghost use Rattle.rules.specs.LimitWords as limit;
+use rules::Action;
 use rules::Advance;
-use rules::Anded;
 use rules::Limit;
 use rules::Model;
-use rules::Switch;
+use rules::variants::real_count;
+use rules::variants::virtual_count;
+use word::Layout;
+
+// The words of a block.
+const WORDS: usize = 19;
+
+// The bit of a control word that is ANDing with LS Enable.
+const ENABLE: u16 = 15;
 
 // ---- The checks
 
@@ -29,14 +37,14 @@ fn magnitude(w: u16) -> u16
 
 // Bit 2, advance: outside −999 to 999.
 fn advance_bad(w: u16) -> bool
-    ensures { λ r. ⌜ r ≡ advanceBad w ⌝ }
+    ensures { λ r. ⌜ r ≡ limit.advanceBad w ⌝ }
 {
     999 < magnitude(w)
 }
 
-// Bit 1, control: detector or type 3, or one of bits 2 to 12 set.
+// Bit 1, control: detector or type 3, or another bit set.
 fn control_bad(w: u16) -> bool
-    ensures { λ r. ⌜ r ≡ controlBad w ⌝ }
+    ensures { λ r. ⌜ r ≡ limit.controlBad w ⌝ }
 {
     if w / 8192 % 4 == 3 {
         return true;
@@ -44,12 +52,12 @@ fn control_bad(w: u16) -> bool
     if w % 4 == 3 {
         return true;
     }
-    w / 4 % 2048 != 0
+    word::other_bit(w, Layout::LimitControl)
 }
 
 // Q or K 0 or, with bit 3 clear, R < Q × K + Q − 1.
 pub fn pulse_bad(bit3: bool, r: u16, q: u16, k: u16) -> bool
-    ensures { λ b. ⌜ b ≡ pulseBad bit3 r q k ⌝ }
+    ensures { λ b. ⌜ b ≡ limit.pulseBad bit3 r q k ⌝ }
 {
     if q == 0 {
         return true;
@@ -65,7 +73,7 @@ pub fn pulse_bad(bit3: bool, r: u16, q: u16, k: u16) -> bool
 
 // A pulse starts no later than where the one before it ends.
 fn some_touch(r: u16, q: u16, k: u16) -> bool
-    ensures { λ b. ⌜ b ≡ someTouch r q k ⌝ }
+    ensures { λ b. ⌜ b ≡ someOf (q - 1) 0 (λ j. leb (switches.pulseStart r q k (j + 1)) (switches.pulseStart r q k j + k)) ⌝ }
 {
     let gaps = word::one_less(q);
     let mut j: u16 = 0;
@@ -81,7 +89,7 @@ fn some_touch(r: u16, q: u16, k: u16) -> bool
 
 // Two pulses touch, the first one after the last, round the turn, too.
 pub fn pulses_touch(top: u16, r: u16, q: u16, k: u16) -> bool
-    ensures { λ b. ⌜ b ≡ pulsesTouch (top + 1) r q k ⌝ }
+    ensures { λ b. ⌜ b ≡ limit.pulsesTouch (top + 1) r q k ⌝ }
 {
     if some_touch(r, q, k) {
         return true;
@@ -92,21 +100,21 @@ pub fn pulses_touch(top: u16, r: u16, q: u16, k: u16) -> bool
 
 // The place of limit block n.
 fn block_start(n: u16) -> usize
-    ensures { λ r. ⌜ r ≡ 19 * n - 17 ⌝ }
+    ensures { λ r. ⌜ r ≡ limit.blockAt n ⌝ }
 {
     if n == 0 {
         return 0;
     }
-    19 * n as usize - 17
+    WORDS * n as usize - 17
 }
 
-// The nineteen words of limit block n.
+// The words of limit block n, n from 1.
 fn block(file: &[u16], n: u16) -> [u16; 19]
-    ensures { λ r. ⌜ r ≡ blockOf (now (file .entry)) n ⌝ }
+    ensures { λ r. ⌜ r ≡ limit.limitBlock (now (file .entry)) n ⌝ }
 {
     let start = block_start(n);
-    let mut words = [0u16; 19];
-    let mut left: usize = 19;
+    let mut words = [0u16; WORDS];
+    let mut left = WORDS;
     while 0 < left {
         left = left - 1;
         words[left] = word::word_at(file, start + left);
@@ -114,12 +122,12 @@ fn block(file: &[u16], n: u16) -> [u16; 19]
     words
 }
 
-// A block, taken for a file that begins with it, is all zero.
-fn zero_block(b: [u16; 19]) -> bool
-    ensures { λ r. ⌜ r ≡ allZero b 0 ⌝ }
+// A block's words are all 0.
+fn all_zero(b: [u16; 19]) -> bool
+    ensures { λ r. ⌜ r ≡ limit.allZero b ⌝ }
 {
     let mut k: usize = 0;
-    while k < 19 {
+    while k < WORDS {
         if b[k] != 0 {
             return false;
         }
@@ -128,23 +136,16 @@ fn zero_block(b: [u16; 19]) -> bool
     true
 }
 
-// All nineteen words of limit block n are 0.
-pub fn all_zero(file: &[u16], n: u16) -> bool
-    ensures { λ r. ⌜ r ≡ allZero (now (file .entry)) n ⌝ }
-{
-    zero_block(block(file, n))
-}
-
 // Limit block n is of type timed.
 fn timed_block(file: &[u16], n: u16) -> bool
-    ensures { λ r. ⌜ r ≡ timedBlock (now (file .entry)) n ⌝ }
+    ensures { λ r. ⌜ r ≡ eqb (limit.controlType (word (now (file .entry)) (limit.blockAt n))) 2 ⌝ }
 {
     word::word_at(file, block_start(n)) % 4 == 2
 }
 
 // Output n, from 1, is at least the fifth timed of its kind: four of the lower ones of its sixteen are timed.
-pub fn fifth_timed(file: &[u16], n: u16) -> bool
-    ensures { λ r. ⌜ r ≡ fifthTimed (now (file .entry)) n ⌝ }
+fn fifth_timed(file: &[u16], n: u16) -> bool
+    ensures { λ r. ⌜ r ≡ limit.fifthTimed (now (file .entry)) n ⌝ }
 {
     let lower = word::one_less(n) % 16;
     let mut count: u16 = 0;
@@ -158,7 +159,7 @@ pub fn fifth_timed(file: &[u16], n: u16) -> bool
 
 // Some of the eight pairs of a normal switch's block is bad.
 fn some_pair_bad(top: u16, b: [u16; 19]) -> bool
-    ensures { λ r. ⌜ r ≡ someOf 8 0 (limitPairBad (top + 1) b 0) ⌝ }
+    ensures { λ r. ⌜ r ≡ someOf 8 0 (limit.blockPairBad (top + 1) b) ⌝ }
 {
     let mut k: usize = 0;
     while k < 8 {
@@ -172,7 +173,7 @@ fn some_pair_bad(top: u16, b: [u16; 19]) -> bool
 
 // Bit 3, setpoint: of a normal switch any of the eight pairs, of the others the first.
 fn setpoint_bad(top: u16, b: [u16; 19]) -> bool
-    ensures { λ r. ⌜ r ≡ setpointBad (top + 1) b 0 ⌝ }
+    ensures { λ r. ⌜ r ≡ limit.setpointBad (top + 1) b ⌝ }
 {
     if b[0] % 4 == 0 {
         return some_pair_bad(top, b);
@@ -182,7 +183,7 @@ fn setpoint_bad(top: u16, b: [u16; 19]) -> bool
 
 // Bit 4 of a timed switch: the fifth of its kind, or its duration.
 fn duration_bad(fifth: bool, used: bool, t: u16) -> bool
-    ensures { λ r. ⌜ r ≡ durationBit fifth used t ⌝ }
+    ensures { λ r. ⌜ r ≡ fifth || (used && (eqb t 0 || ltb 9999 t)) ⌝ }
 {
     if fifth {
         return true;
@@ -198,7 +199,7 @@ fn duration_bad(fifth: bool, used: bool, t: u16) -> bool
 
 // Bit 4, where bit 3 is `bit3`: the length of a train, a timed switch's duration or number.
 fn length_bad(top: u16, fifth: bool, bit3: bool, b: [u16; 19]) -> bool
-    ensures { λ r. ⌜ r ≡ lengthBit (top + 1) fifth bit3 b ⌝ }
+    ensures { λ r. ⌜ r ≡ limit.lengthBad (top + 1) fifth bit3 b ⌝ }
 {
     let used = counts::used_pair(b[3], b[4]);
     if b[0] % 4 == 1 {
@@ -215,7 +216,7 @@ fn length_bad(top: u16, fifth: bool, bit3: bool, b: [u16; 19]) -> bool
 
 // Bit 5, two pulses touch, tested where bits 3 and 4 are clear.
 fn touch_bad(top: u16, bit3: bool, bit4: bool, b: [u16; 19]) -> bool
-    ensures { λ r. ⌜ r ≡ touchBit (top + 1) bit3 bit4 b ⌝ }
+    ensures { λ r. ⌜ r ≡ limit.touchBad (top + 1) bit3 bit4 b ⌝ }
 {
     if b[0] % 4 != 1 {
         return false;
@@ -241,7 +242,7 @@ fn error_word(bit1: bool, bit2: bool, bit3: bool, bit4: bool, bit5: bool) -> u16
 
 // Either of a block's two advances is bad.
 fn advances_bad(on: u16, off: u16) -> bool
-    ensures { λ r. ⌜ r ≡ (advanceBad on || advanceBad off) ⌝ }
+    ensures { λ r. ⌜ r ≡ (limit.advanceBad on || limit.advanceBad off) ⌝ }
 {
     if advance_bad(on) {
         return true;
@@ -249,9 +250,9 @@ fn advances_bad(on: u16, off: u16) -> bool
     advance_bad(off)
 }
 
-// Bits 1 to 5 of a block; of type 3 only 1 and 2 are tested.
-fn bits_of_block(top: u16, fifth: bool, b: [u16; 19]) -> u16
-    ensures { λ r. ⌜ r ≡ blockBits (top + 1) fifth b 0 ⌝ }
+// Bits 1 to 5 of word 630 for a block; of type 3 only 1 and 2 are tested. `fifth` says that the output is at least the fifth timed of its kind.
+fn block_bits(top: u16, fifth: bool, b: [u16; 19]) -> u16
+    ensures { λ r. ⌜ r ≡ limit.blockBits (top + 1) fifth b ⌝ }
 {
     let bit1 = control_bad(b[0]);
     let bit2 = advances_bad(b[1], b[2]);
@@ -264,28 +265,38 @@ fn bits_of_block(top: u16, fifth: bool, b: [u16; 19]) -> u16
     error_word(bit1, bit2, bit3, bit4, bit5)
 }
 
-// Bits 1 to 5 of word 630 for limit block n; `fifth` says that the output is at least the fifth timed of its kind.
-pub fn block_bits(top: u16, fifth: bool, file: &[u16], n: u16) -> u16
-    ensures { λ r. ⌜ r ≡ blockBits (top + 1) fifth (now (file .entry)) n ⌝ }
+// The same for limit block n of a file.
+pub fn bits_of(top: u16, file: &[u16], n: u16) -> u16
+    ensures { λ r. ⌜ r ≡ limit.blockBits (top + 1) (limit.fifthTimed (now (file .entry)) n) (limit.limitBlock (now (file .entry)) n) ⌝ }
 {
-    bits_of_block(top, fifth, block(file, n))
+    block_bits(top, fifth_timed(file, n), block(file, n))
 }
 
 // ---- The decoding
 
 // The module has output n, from 0.
-pub fn present(m: Model, n: u16) -> bool
+fn present(m: Model, n: u16) -> bool
     ensures { λ r. ⌜ r ≡ switches.present m n ⌝ }
 {
-    if 16 <= n {
-        return true;
+    if n < 16 {
+        return n < real_count(m);
     }
-    n < Model::real_count(m)
+    n - 16 < virtual_count(m)
+}
+
+// Output n, from 1, is missing, or its block is all zero.
+pub fn unread(m: Model, file: &[u16], n: u16) -> bool
+    ensures { λ r. ⌜ r ≡ limit.unread m (now (file .entry)) n ⌝ }
+{
+    if present(m, word::one_less(n)) {
+        return all_zero(block(file, n));
+    }
+    true
 }
 
 // An advance word: two's complement, in tenths of a millisecond.
 fn advance_of(w: u16) -> Advance
-    ensures { λ r. ⌜ r ≡ advanceOf w ⌝ }
+    ensures { λ r. ⌜ r ≡ limit.advanceOf w ⌝ }
 {
     Advance {
         negative: 32768 <= w,
@@ -293,38 +304,40 @@ fn advance_of(w: u16) -> Advance
     }
 }
 
-// The detector of a control word's bits 14 and 13.
-pub fn anded_of(d: u16) -> Anded
-    ensures { λ r. ⌜ r ≡ andedOf d ⌝ }
-{
-    if d == 1 {
-        return Anded::First;
-    }
-    if d == 2 {
-        return Anded::Second;
-    }
-    Anded::Neither
-}
-
 // The type of a block's switch, with what figure 5.9 puts after the pair.
-fn switch_of(b: [u16; 19]) -> Switch
-    ensures { λ r. ⌜ r ≡ switchOf b 0 ⌝ }
+fn action_of(b: [u16; 19]) -> Action
+    ensures { λ r. ⌜ r ≡ limit.actionOf b ⌝ }
 {
     if b[0] % 4 == 0 {
-        return Switch::Normal;
+        return Action {
+            kind: 1,
+            quantity: 0,
+            count: 0,
+            duration: 0,
+        };
     }
     if b[0] % 4 == 1 {
-        return Switch::Pulse(b[5], b[6]);
+        return Action {
+            kind: 2,
+            quantity: b[5],
+            count: b[6],
+            duration: 0,
+        };
     }
     if b[0] % 4 == 2 {
-        return Switch::Timed(b[5]);
+        return Action {
+            kind: 3,
+            quantity: 0,
+            count: 0,
+            duration: b[5],
+        };
     }
-    Switch::Unprogrammed
+    Action::UNPROGRAMMED
 }
 
 // The sixteen setpoints of a normal switch; the first two of the others.
 fn setpoints_of(b: [u16; 19]) -> [u16; 16]
-    ensures { λ r. ⌜ r ≡ table 16 0 (setpointOf b 0) ⌝ }
+    ensures { λ r. ⌜ r ≡ table 16 0 (limit.setpointOf b) ⌝ }
 {
     if b[0] % 4 != 0 {
         return [b[3], b[4], 0, 0, 0, 0, 0, 0, 0, 0, 0, 0, 0, 0, 0, 0];
@@ -351,28 +364,24 @@ fn setpoints_of(b: [u16; 19]) -> [u16; 16]
 
 // The program that a block gives.
 fn limit_of_block(b: [u16; 19]) -> Limit
-    ensures { λ r. ⌜ r ≡ limitOfBlock b ⌝ }
+    ensures { λ r. ⌜ r ≡ limit.limitOfBlock b ⌝ }
 {
     Limit {
-        switch: switch_of(b),
-        enable: b[0] / 32768 % 2 == 1,
-        detector: anded_of(b[0] / 8192 % 4),
+        action: action_of(b),
+        enable: word::bit(b[0], ENABLE),
+        detector: b[0] / 8192 % 4,
         onadvance: advance_of(b[1]),
         offadvance: advance_of(b[2]),
         setpoints: setpoints_of(b),
     }
 }
 
-// The program of output n, from 1, that a file gives; none where the output is missing or its block all zero.
+// The program of output n, from 1, that a file gives.
 pub fn limit_from(m: Model, file: &[u16], n: u16) -> Limit
-    ensures { λ r. ⌜ r ≡ limitFrom m (now (file .entry)) n ⌝ }
+    ensures { λ r. ⌜ r ≡ limit.limitFrom m (now (file .entry)) n ⌝ }
 {
-    if present(m, word::one_less(n)) {
-        let b = block(file, n);
-        if zero_block(b) {
-            return Limit::NONE;
-        }
-        return limit_of_block(b);
+    if unread(m, file, n) {
+        return Limit::NONE;
     }
-    Limit::NONE
+    limit_of_block(block(file, n))
 }

@@ -1,4 +1,4 @@
--- Laws of the nudge cycle. Assumes nothing.
+-- Laws of the nudge. Assumes nothing.
 use Prim.Native.Nat.{ℕ, _+_, _<_}
 use mathlib.Core.Bool.{Bool, true, false, not, _&&_, _||_, true≢false}
 use mathlib.Core.Path.{_≡_, refl, sym}
@@ -8,9 +8,11 @@ use borrow.Author.Tests.{eqb-false, leb-false}
 use lib.Dec.{leb, leb·suc-suc}
 use Rattle.rules.specs.Words.{bit}
 use Rattle.rules.proofs.Laws.{positive}
-use Rattle.rules.specs.Programming.{leavesRange, nudgedIf, resultBad, nudgeSetpointBad}
+use Rattle.rules.specs.Nudge.{onBit, offBit, downBit, leavesRange, nudgedIf, resultBad, nudgeSetpointBad}
 use Rattle.rules.specs.declared.Limit.{Limit}
-use Rattle.rules.specs.Switches.{usedPair, onSetpoint, offSetpoint}
+use Rattle.rules.specs.Variants.{limitSwitch}
+use Rattle.rules.specs.Counts.{usedPair}
+use Rattle.rules.specs.Switches.{onSetpoint, offSetpoint}
 
 -- one more on both sides of a test
 pub leb-both : (a b : ℕ) → leb a b ≡ leb (a + 1) (b + 1)
@@ -39,14 +41,14 @@ third-false true b d e h = absurd (true≢false h)
 
 -- where refusal 10 does not come, neither chosen setpoint leaves the range
 module _ (sf : ℕ) (l : Limit) (k w : ℕ) (good : nudgeSetpointBad sf l k w ≡ false) where
-  pub on-stays : (bit w 8 && leavesRange sf (bit w 10) (onSetpoint l k)) ≡ false
+  pub on-stays : (bit w onBit && leavesRange sf (bit w downBit) (onSetpoint l k)) ≡ false
   unfolding nudgeSetpointBad
   on-stays =
-      second-false (not (usedPair (onSetpoint l k) (offSetpoint l k))) (bit w 8 && leavesRange sf (bit w 10) (onSetpoint l k)) (bit w 9 && leavesRange sf (bit w 10) (offSetpoint l k))
-      (resultBad sf (l .switch) (nudgedIf (bit w 8) (bit w 10) (onSetpoint l k)) (nudgedIf (bit w 9) (bit w 10) (offSetpoint l k))) good
+      second-false (not (usedPair (onSetpoint l k) (offSetpoint l k))) (bit w onBit && leavesRange sf (bit w downBit) (onSetpoint l k)) (bit w offBit && leavesRange sf (bit w downBit) (offSetpoint l k))
+      (resultBad sf (limitSwitch l) (nudgedIf (bit w onBit) (bit w downBit) (onSetpoint l k)) (nudgedIf (bit w offBit) (bit w downBit) (offSetpoint l k))) good
 
-  pub off-stays : (bit w 9 && leavesRange sf (bit w 10) (offSetpoint l k)) ≡ false
+  pub off-stays : (bit w offBit && leavesRange sf (bit w downBit) (offSetpoint l k)) ≡ false
   unfolding nudgeSetpointBad
   off-stays =
-      third-false (not (usedPair (onSetpoint l k) (offSetpoint l k))) (bit w 8 && leavesRange sf (bit w 10) (onSetpoint l k)) (bit w 9 && leavesRange sf (bit w 10) (offSetpoint l k))
-      (resultBad sf (l .switch) (nudgedIf (bit w 8) (bit w 10) (onSetpoint l k)) (nudgedIf (bit w 9) (bit w 10) (offSetpoint l k))) good
+      third-false (not (usedPair (onSetpoint l k) (offSetpoint l k))) (bit w onBit && leavesRange sf (bit w downBit) (onSetpoint l k)) (bit w offBit && leavesRange sf (bit w downBit) (offSetpoint l k))
+      (resultBad sf (limitSwitch l) (nudgedIf (bit w onBit) (bit w downBit) (onSetpoint l k)) (nudgedIf (bit w offBit) (bit w downBit) (offSetpoint l k))) good

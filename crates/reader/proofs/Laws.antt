@@ -6,21 +6,22 @@ use native.Mathlib.Omega.{arith}
 use borrow.Author.Tests.{ltb-false, eqb-true, eqb-false}
 use lib.Dec.{ltb, eqb}
 use Rattle.rules.proofs.Laws.{positive}
-use Rattle.rules.specs.Programming.{numberOf, readerRefusal}
+use Rattle.rules.specs.Cycle.{numberOf, m0Length, m1Length}
+use Rattle.rules.specs.Reader.{readerRefusal}
 
 -- what is known where the reader does not refuse
 pub record Readable (length0 length1 : ℕ) (group : Bool) (n : ℕ) : Type 0 where
-  pub first : length0 ≡ 120
-  pub second : length1 ≡ 650
+  pub first : length0 ≡ m0Length
+  pub second : length1 ≡ m1Length
   pub least : 0 < n
   pub most : n ≤ cond group 6 32
 
-readable-by : (length0 length1 : ℕ) (group : Bool) (n : ℕ) (a b d e : Bool) → eqb length0 120 ≡ a → eqb length1 650 ≡ b → eqb n 0 ≡ d → ltb (cond group 6 32) n ≡ e
+readable-by : (length0 length1 : ℕ) (group : Bool) (n : ℕ) (a b d e : Bool) → eqb length0 m0Length ≡ a → eqb length1 m1Length ≡ b → eqb n 0 ≡ d → ltb (cond group 6 32) n ≡ e
     → readerRefusal length0 length1 group n ≡ 0 → Readable length0 length1 group n
 unfolding readerRefusal numberOf
 readable-by length0 length1 group n true true false false p q r s h =
     let z = eqb-false n 0 r in
-    record { first = eqb-true length0 120 p; second = eqb-true length1 650 q; least = positive n z; most = ltb-false (cond group 6 32) n s }
+    record { first = eqb-true length0 m0Length p; second = eqb-true length1 m1Length q; least = positive n z; most = ltb-false (cond group 6 32) n s }
 readable-by length0 length1 group n true true false true p q r s h = absurd (four (rw (p, q, r, s) at h))
   where
     four : (_≡_ {A = ℕ} 4 0) → ⊥
@@ -39,4 +40,4 @@ readable-by length0 length1 group n false b d e p q r s h = absurd (one (rw p at
     one x = omega arith
 
 pub readable : (length0 length1 : ℕ) (group : Bool) (n : ℕ) → readerRefusal length0 length1 group n ≡ 0 → Readable length0 length1 group n
-readable length0 length1 group n = readable-by length0 length1 group n (eqb length0 120) (eqb length1 650) (eqb n 0) (ltb (cond group 6 32) n) refl refl refl refl
+readable length0 length1 group n = readable-by length0 length1 group n (eqb length0 m0Length) (eqb length1 m1Length) (eqb n 0) (ltb (cond group 6 32) n) refl refl refl refl

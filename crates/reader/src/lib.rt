@@ -1,29 +1,39 @@
-// The block reader: a group's 4 words of M0 or an output's 19 of M1, as part of that file.
+// The block reader: a group's words of M0 or an output's of M1, as part of that file.
+use rules::Module;
+use rules::Refusal;
+use rules::numbers::number_of;
 ghost use mathlib.Core.Path.{_≡_};
+ghost use mathlib.Core.Bool.{cond};
 ghost use lib.ListN.{length};
-ghost use Rattle.rules.specs.Programming as programming;
+ghost use Rattle.rules.specs.Reader as reader;
 
-// The refusal number, 0 if none: 1 before 2 before 4.
-fn refusal_of(length0: usize, length1: usize, group: bool, n: u16) -> u16
-    ensures { λ r. ⌜ r ≡ programming.readerRefusal length0 length1 group n ⌝ }
+// The words of a group's block, and of an output's.
+const GROUP_WORDS: usize = 4;
+
+const OUTPUT_WORDS: usize = 19;
+
+// How many blocks a file has.
+fn block_count(group: bool) -> u16
+    ensures { λ r. ⌜ r ≡ cond group 6 32 ⌝ }
 {
-    if length0 != 120 {
-        return 1;
+    if group { 6 } else { 32 }
+}
+
+// The refusal's number, 0 if none: 1 before 2 before 4.
+fn refusal_of(length0: usize, length1: usize, group: bool, n: u16) -> u16
+    ensures { λ r. ⌜ r ≡ reader.readerRefusal length0 length1 group n ⌝ }
+{
+    if length0 != Module::M0_WORDS {
+        return number_of(Refusal::M0Length);
     }
-    if length1 != 650 {
-        return 2;
+    if length1 != Module::M1_WORDS {
+        return number_of(Refusal::M1Length);
     }
     if n == 0 {
-        return 4;
+        return number_of(Refusal::BlockNumber);
     }
-    if group {
-        if 6 < n {
-            return 4;
-        }
-        return 0;
-    }
-    if 32 < n {
-        return 4;
+    if block_count(group) < n {
+        return number_of(Refusal::BlockNumber);
     }
     0
 }
@@ -36,7 +46,7 @@ pub fn read_block<'a>(
     n: u16,
     refusal: &mut u16,
 ) -> &'a [u16]
-    ensures { λ r. ⌜ (now r ≡ programming.readerPart (now (m0 .entry)) (now (m1 .entry)) group n) × (now (refusal .exit) ≡ programming.readerRefusal (length (now (m0 .entry))) (length (now (m1 .entry))) group n) ⌝ }
+    ensures { λ r. ⌜ (now r ≡ reader.readerPart (now (m0 .entry)) (now (m1 .entry)) group n) × (now (refusal .exit) ≡ reader.readerRefusal (length (now (m0 .entry))) (length (now (m1 .entry))) group n) ⌝ }
 {
     let why = refusal_of(m0.len(), m1.len(), group, n);
     *refusal = why;
@@ -44,11 +54,11 @@ pub fn read_block<'a>(
         return &m0[0..0];
     }
     if group {
-        let at = 18 + 4 * n as usize;
-        let end = at + 4;
+        let at = 18 + GROUP_WORDS * n as usize;
+        let end = at + GROUP_WORDS;
         return &m0[at..end];
     }
-    let at = 19 * n as usize - 17;
-    let end = at + 19;
+    let at = OUTPUT_WORDS * n as usize - 17;
+    let end = at + OUTPUT_WORDS;
     &m1[at..end]
 }

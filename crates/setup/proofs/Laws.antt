@@ -1,5 +1,5 @@
--- Laws of the setup cycle. Assumes nothing.
-use Prim.Native.Nat.{ℕ, _+_, _-_, _*_, _/_, _%_}
+-- Laws of the setup words. Assumes nothing.
+use Prim.Native.Nat.{ℕ, _+_, _-_, _%_}
 use mathlib.Core.Bool.{Bool, true, false, not, xor}
 use mathlib.Core.Path.{_≡_, refl, sym, ap, _∙_}
 use native.Mathlib.Nat.{mul-zero, mod-zero}
@@ -8,7 +8,7 @@ use borrow.Author.Tests.{le-ltb}
 use lib.IntN.{subℕ}
 use Rattle.rules.specs.Words.{modulo}
 use Rattle.rules.specs.Motion.{turned, scaledPosition}
-use Rattle.rules.specs.Programming.{presetOffset}
+use Rattle.rules.specs.SetupWords.{presetOffset}
 use Rattle.rules.proofs.Laws.{modulo-natural}
 
 -- the exclusive or, by its first argument

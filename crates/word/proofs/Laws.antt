@@ -1,10 +1,10 @@
 -- Laws of the rules' words: the digits of `packed`, bits of a bitwise operation, counts over bits, words stored into a file. Callers cite these and open none of the definitions.
 -- Assumes nothing.
 use Prim.Native.Nat.{ℕ, zero, suc, _+_, _*_, _/_, _%_, _-_, _^_, _≤_, _<_, min, max}
-use mathlib.Core.Bool.{Bool, true, false, not, _&&_, _||_, xor}
+use mathlib.Core.Bool.{Bool, true, false, cond, not, _&&_, _||_, xor}
 use mathlib.Core.List.{List, [], _∷_}
 use mathlib.Core.Path.{_≡_, refl, sym, ap, ap₂, _∙_}
-use native.Mathlib.Nat.{lt-of-lt-of-le, lt-of-le-of-lt, zero-add, pow-suc, mul-comm, div-div-eq-div-mul, div-eq-of-lt}
+use native.Mathlib.Nat.{lt-of-lt-of-le, lt-of-le-of-lt, zero-add, pow-suc, div-div-eq-div-mul, div-eq-of-lt}
 use native.Mathlib.Numerals.{add-one}
 use native.Mathlib.Omega.{arith}
 use lib.Dec.{eqb, eqb·suc-zero}
@@ -15,7 +15,7 @@ use lib.Bits.{bitAnd, bitOr, bitXor, and-step, or-step, xor-step, and-shr, or-sh
 use lib.Count.{ones, ones-step}
 use mir.Val.{boolByte}
 use Rattle.rules.proofs.Packing.{digit-le, packed-lt, packed-bit, packed-same}
-use Rattle.rules.specs.Words.{word, bit, digit, packed, someOf, countOf, storedAt, anyWord, forced}
+use Rattle.rules.specs.Words.{word, bit, digit, packed, someOf, countOf, lowestOf, storedAt, anyWord, forced}
 
 -- ---- `packed`
 
@@ -204,6 +204,15 @@ unfolding anyWord
 any-one from to k file a b h =
     let e : from + (k - from) ≡ k = omega arith in
     some-one (to + 1 - from) from (k - from) (λ n. not (eqb (word file n) 0)) (omega arith) (rw (e, ne-eqb (word file k) 0 h))
+
+-- one turn of a loop that goes from the highest number down
+pub lowest-turn : (n left : ℕ) (f : ℕ → Bool) → 0 < left → left ≤ n
+    → cond (f left) left (lowestOf (n - left) (left + 1) f) ≡ lowestOf (n - (left - 1)) (left - 1 + 1) f
+unfolding lowestOf
+lowest-turn n left f h k =
+    let e : n - (left - 1) ≡ suc (n - left) = omega arith in
+    let j : left - 1 + 1 ≡ left = omega arith in
+    rw (e, j)
 
 -- ---- Words stored into a file
 

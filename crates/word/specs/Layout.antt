@@ -1,11 +1,16 @@
--- The bits that 01 names of each word in which all others are reserved. Assumes nothing.
+-- The bits that 01 names of each word in which all others are reserved.
+-- Assumes nothing.
 use Prim.Native.Nat.{ℕ}
-use mathlib.Core.List.{List, [], _∷_}
+use mathlib.Core.List.{List}
+use Rattle.rules.specs.SetupWords.{setupCommandBits}
+use Rattle.rules.specs.GroupWords.{groupCommandBits, groupControlBits}
+use Rattle.rules.specs.LimitWords.{limitCommandBits, limitControlBits}
 use Rattle.word.specs.declared.Layout.{Layout}
-use Rattle.word.specs.declared.Layout.the-variants.{SetupCommand, Command, GroupControl, LimitControl}
+use Rattle.word.specs.declared.Layout.the-variants.{SetupCommand, GroupCommand, LimitCommand, GroupControl, LimitControl}
 
 abbrev pub named : Layout → List ℕ
-named SetupCommand = 0 ∷ 1 ∷ 4 ∷ 5 ∷ 8 ∷ 9 ∷ 15 ∷ []
-named Command = 0 ∷ 15 ∷ []
-named GroupControl = 0 ∷ 1 ∷ 2 ∷ 3 ∷ 4 ∷ 8 ∷ 9 ∷ 10 ∷ 13 ∷ 14 ∷ 15 ∷ []
-named LimitControl = 0 ∷ 1 ∷ 13 ∷ 14 ∷ 15 ∷ []
+named SetupCommand = setupCommandBits
+named GroupCommand = groupCommandBits
+named LimitCommand = limitCommandBits
+named GroupControl = groupControlBits
+named LimitControl = limitControlBits

@@ -2,21 +2,24 @@
 
 ghost use mathlib.Core.Path.{_≡_};
 ghost use mathlib.Core.List.{[], _∷_};
-ghost use mathlib.Core.Bool.{false, not, cond};
+ghost use mathlib.Core.Bool.{not, cond};
 ghost use Prim.Native.Nat.{_+_, _-_, _<_};
 ghost use lib.Dec.{leb};
 ghost use lib.ListN.{length};
 ghost use Rattle.rules.specs.Words as words;
 ghost use Rattle.word.specs.Layout.{named};
 
-// A word in which 01 names some bits and the others are reserved: the setup command, the group and limit commands, a group's and a limit
-// switch's control word.
+// A word in which 01 names some bits and the others are reserved: the setup, group and limit commands, a group's and a limit switch's control word.
 pub enum Layout {
     SetupCommand,
-    Command,
+    GroupCommand,
+    LimitCommand,
     GroupControl,
     LimitControl,
 }
+
+// The status bit of a reserved bit or word.
+pub const RESERVED_STATUS: u16 = 0x8000;
 
 // Bit n of a word.
 pub fn bit(w: u16, n: u16) -> bool
@@ -34,7 +37,8 @@ fn reserved(layout: Layout) -> u16
 {
     match layout {
         Layout::SetupCommand => 0x7ccc,
-        Layout::Command => 0x7ffe,
+        Layout::GroupCommand => 0x7ffe,
+        Layout::LimitCommand => 0x7ffe,
         Layout::GroupControl => 0x18e0,
         Layout::LimitControl => 0x1ffc,
     }

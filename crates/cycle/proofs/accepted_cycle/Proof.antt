@@ -1,7 +1,6 @@
 -- `cycle::accepted_cycle` meets its contract: the fields that the definition sets. Assumes nothing.
-use Rattle.rules.specs.Programming.{acceptedCycle}
+use Rattle.rules.specs.Cycle.{acceptedCycle}
 use mathlib.Core.Path.{refl}
-use borrow.Author.Needs.{needs}
 use Rattle.cycle.proofs.accepted_cycle.Statement.{statement}
 use Rattle.cycle.proofs.accepted_cycle.Tie as tie
 

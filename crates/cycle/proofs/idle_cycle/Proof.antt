@@ -1,5 +1,5 @@
 -- `cycle::idle_cycle` meets its contract: by transmit. Assumes nothing.
-use Rattle.rules.specs.Programming.{idleCycle}
+use Rattle.rules.specs.Cycle.{idleCycle}
 use borrow.Author.Needs.{needs}
 use Rattle.cycle.proofs.idle_cycle.Statement.{statement}
 use Rattle.cycle.proofs.idle_cycle.Tie as tie

@@ -1,7 +1,6 @@
 -- `cycle::ignored_cycle` meets its contract: the fields that the definition sets. Assumes nothing.
-use Rattle.rules.specs.Programming.{ignoredCycle}
+use Rattle.rules.specs.Cycle.{ignoredCycle}
 use mathlib.Core.Path.{refl}
-use borrow.Author.Needs.{needs}
 use Rattle.cycle.proofs.ignored_cycle.Statement.{statement}
 use Rattle.cycle.proofs.ignored_cycle.Tie as tie
 

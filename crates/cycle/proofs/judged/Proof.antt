@@ -1,5 +1,5 @@
 -- `cycle::judged` meets its contract: barred, accepted or refused. Assumes nothing.
-use Rattle.rules.specs.Programming.{judged}
+use Rattle.rules.specs.Cycle.{judged}
 use borrow.Author.Tests.{eq-eqb, ne-eqb}
 use borrow.Author.Needs.{needs}
 use Rattle.cycle.proofs.judged.Statement.{statement}

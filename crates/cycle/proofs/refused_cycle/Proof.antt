@@ -1,5 +1,5 @@
 -- `cycle::refused_cycle` meets its contract: the fields that the definition sets. Assumes nothing.
-use Rattle.rules.specs.Programming.{refusedCycle}
+use Rattle.rules.specs.Cycle.{refusedCycle}
 use borrow.Author.Needs.{needs}
 use Rattle.cycle.proofs.refused_cycle.Statement.{statement}
 use Rattle.cycle.proofs.refused_cycle.Tie as tie

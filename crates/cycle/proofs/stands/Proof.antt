@@ -1,6 +1,5 @@
 -- `cycle::stands` meets its contract: error by error. Assumes nothing.
-use Rattle.rules.specs.Programming.{stands}
-use borrow.Author.Needs.{needs}
+use Rattle.rules.specs.Cycle.{stands}
 use Rattle.cycle.proofs.stands.Statement.{statement}
 use Rattle.cycle.proofs.stands.Tie as tie
 

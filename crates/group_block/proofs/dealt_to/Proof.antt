@@ -6,7 +6,7 @@ use native.Mathlib.Omega.{arith}
 use lib.ListN.{length, getD, drop, drop-of-length-le}
 use borrow.Author.Tests.{lt-ltb, le-ltb}
 use Rattle.rules.specs.Groups.{noGroup}
-use Rattle.rules.specs.Programming.{dealtTo}
+use Rattle.rules.specs.GroupWords.{dealtTo}
 use Rattle.group_block.proofs.Laws.{dealt-turn}
 use borrow.Author.Needs.{needs}
 use Rattle.group_block.proofs.dealt_to.Statement.{statement}

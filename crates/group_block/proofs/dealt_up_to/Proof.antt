@@ -1,8 +1,8 @@
 -- `group_block::dealt_up_to` meets its contract: one group more at each turn. Assumes nothing.
-use Prim.Native.Nat.{_+_, _-_, _*_, _≤_}
-use mathlib.Core.Path.{_≡_, refl, _∙_}
+use Prim.Native.Nat.{_-_, _*_, _≤_}
+use mathlib.Core.Path.{_≡_, refl}
 use native.Mathlib.Omega.{arith}
-use Rattle.rules.specs.Programming.{dealtUpTo}
+use Rattle.rules.specs.GroupWords.{dealtUpTo}
 use Rattle.group_block.proofs.Laws.{dealt-more}
 use borrow.Author.Needs.{needs}
 use Rattle.group_block.proofs.dealt_up_to.Statement.{statement}

@@ -1,6 +1,6 @@
 -- `group_block::group_bits` meets its contract: bit by bit. Assumes nothing.
 use borrow.Author.Tests.{not-true, not-false}
-use Rattle.rules.specs.Programming.{groupBits}
+use Rattle.rules.specs.GroupWords.{groupBits}
 use Rattle.group_block.proofs.Laws.{over-top}
 use Rattle.group_block.proofs.group_bits.Statement.{statement}
 use Rattle.group_block.proofs.group_bits.Tie as tie
@@ -36,8 +36,9 @@ three-bits-requires c κs = tt
 returns-2 : tie.Need-returns-2
 unfolding groupBits
 returns-2 c =
-    rw
-    (c .three-bits .ensures, c .before .pair-bad .ensures, c .before .before .group-word4 .ensures, c .before .before .before .group-word3 .ensures, c .before .before .before .before .program-bad .ensures, c .before .before .before .before .before .group-word2 .ensures, over-top, ← c .before .before .before .before .before .before .before .before .group-word .ensures, ← c .before .before .before .before .before .before .before .bit .ensures, not-false (c .before .before .before .before .before .before .before .bit .result) (c .before .before .before .before .before .before .if1 .left))
+    let used = c .before .before .before .before .before .before in
+    rw (c .three-bits .ensures, c .before .pair-bad .ensures, c .before .before .group-word4 .ensures, c .before .before .before .group-word3 .ensures, c .before .before .before .before .program-bad .ensures, c .before .before .before .before .before .group-word2 .ensures, over-top)
+    (rw (← used .before .before .group-word .ensures, ← used .before .bit .ensures, not-false (used .before .bit .result) (used .if1 .left)))
 
 pub group-bits-spec : {M : Type 1} → statement M
 group-bits-spec =

@@ -1,5 +1,5 @@
 -- `groups::failing_group` meets its contract: the reserved words first, then the lowest group. Assumes nothing.
-use Rattle.rules.specs.Programming.{failingGroup}
+use Rattle.rules.specs.GroupWords.{failingGroup}
 use borrow.Author.Needs.{needs}
 use Rattle.groups.proofs.failing_group.Statement.{statement}
 use Rattle.groups.proofs.failing_group.Tie as tie

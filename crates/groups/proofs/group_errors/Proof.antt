@@ -1,6 +1,6 @@
 -- `groups::group_errors` meets its contract: the reserved words first, then the bits of the lowest failing group. Assumes nothing.
 use borrow.Author.Tests.{eq-eqb, ne-eqb}
-use Rattle.rules.specs.Programming.{groupErrors}
+use Rattle.rules.specs.GroupWords.{groupErrors}
 use borrow.Author.Needs.{needs}
 use Rattle.groups.proofs.group_errors.Statement.{statement}
 use Rattle.groups.proofs.group_errors.Tie as tie

@@ -1,5 +1,5 @@
 -- `groups::group_reserved` meets its contract: the reserved bits of word 20, then the words. Assumes nothing.
-use Rattle.rules.specs.Programming.{groupReserved}
+use Rattle.rules.specs.GroupWords.{groupReserved}
 use borrow.Author.Needs.{needs}
 use Rattle.groups.proofs.group_reserved.Statement.{statement}
 use Rattle.groups.proofs.group_reserved.Tie as tie

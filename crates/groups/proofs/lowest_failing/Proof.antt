@@ -6,8 +6,8 @@ use native.Mathlib.Omega.{arith}
 use lib.Dec.{eqb}
 use borrow.Author.Tests.{eq-eqb, ne-eqb}
 use Rattle.rules.specs.Words.{lowestOf}
-use Rattle.rules.specs.Programming.{groupBits}
-use Rattle.cycle.proofs.Laws.{lowest-turn}
+use Rattle.rules.specs.GroupWords.{groupBits}
+use Rattle.word.proofs.Laws.{lowest-turn}
 use borrow.Author.Needs.{needs}
 use Rattle.groups.proofs.lowest_failing.Statement.{statement}
 use Rattle.groups.proofs.lowest_failing.Tie as tie

@@ -1,5 +1,5 @@
 -- `groups::with_groups` meets its contract: the fields that the definition sets. Assumes nothing.
-use Rattle.rules.specs.Programming.{withGroups}
+use Rattle.rules.specs.GroupWords.{withGroups}
 use borrow.Author.Needs.{needs}
 use Rattle.groups.proofs.with_groups.Statement.{statement}
 use Rattle.groups.proofs.with_groups.Tie as tie

@@ -1,5 +1,5 @@
 -- `limit_block::advance_bad` meets its contract: the magnitude compared. Assumes nothing.
-use Rattle.rules.specs.Programming.{advanceBad}
+use Rattle.rules.specs.LimitWords.{advanceBad}
 use borrow.Author.Needs.{needs}
 use Rattle.limit_block.proofs.advance_bad.Statement.{statement}
 use Rattle.limit_block.proofs.advance_bad.Tie as tie

@@ -1,19 +1,22 @@
 -- `limit_block::block` meets its contract. The invariant: from `left` on the words are the block's. Assumes nothing.
-use Prim.Native.Nat.{_+_, _-_, _≤_}
+use Prim.Native.Nat.{ℕ, _+_, _-_, _≤_}
+use mathlib.Core.List.{List}
 use mathlib.Core.Path.{_≡_, refl, _∙_}
 use native.Mathlib.Omega.{arith}
 use lib.ListN.{length, drop, length-set}
-use Rattle.rules.specs.Words.{table}
-use Rattle.rules.specs.Programming.{limitWord}
-use Rattle.limit_block.specs.Parts.{blockOf}
+use Rattle.rules.specs.Words.{word, table}
+use Rattle.rules.specs.LimitWords.{blockAt, limitBlock}
 use Rattle.switch.proofs.Ranges.{fill-turn}
 use borrow.Author.Needs.{needs}
 use Rattle.limit_block.proofs.block.Statement.{statement}
 use Rattle.limit_block.proofs.block.Tie as tie
 
+abbrev blockWord : List ℕ → ℕ → ℕ → ℕ
+blockWord file n k = word file (blockAt n + k)
+
 abbrev Inv-loop : tie.InvT-loop
 Inv-loop file n start words₀ left₀ words left =
-    (left ≤ 19) × (length words ≡ 19) × (drop left words ≡ table (19 - left) left (limitWord file n))
+    (left ≤ 19) × (length words ≡ 19) × (drop left words ≡ table (19 - left) left (blockWord file n))
 
 abbrev μ-loop : tie.MeasureT-loop
 μ-loop file n start words₀ left₀ words left = left
@@ -49,11 +52,11 @@ loop-again c =
     let x = c .before .before .before .before .before .args in
     let i = l .left - 1 in
     let e : i + 1 ≡ l .left = omega arith in
-    let v : c .word-at .result ≡ limitWord (x .file .now) (x .n) i = c .word-at .ensures ∙ rw (c .before .before .before .block-start .ensures) in
-    (omega arith, simp length-set (l .inv .1), rw v (fill-turn 19 i (limitWord (x .file .now) (x .n)) (l .words) (omega arith) (l .inv .1) (rw e (l .inv .2))))
+    let v : c .word-at .result ≡ blockWord (x .file .now) (x .n) i = c .word-at .ensures ∙ rw (c .before .before .before .block-start .ensures) in
+    (omega arith, simp length-set (l .inv .1), rw v (fill-turn 19 i (blockWord (x .file .now) (x .n)) (l .words) (omega arith) (l .inv .1) (rw e (l .inv .2))))
 
 returns : tie.Need-returns Inv-loop μ-loop
-unfolding blockOf
+unfolding limitBlock
 returns c =
     let l = c .before .loop in
     let z : l .left ≡ 0 = omega arith in

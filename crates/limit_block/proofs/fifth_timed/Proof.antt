@@ -1,16 +1,20 @@
 -- `limit_block::fifth_timed` meets its contract. The invariant: the count so far and the timed blocks from m on make the whole. Assumes nothing.
-use Prim.Native.Nat.{_+_, _-_, _%_, _≤_}
+use Prim.Native.Nat.{ℕ, _+_, _-_, _%_, _≤_}
+use mathlib.Core.Bool.{Bool}
+use mathlib.Core.List.{List}
 use mathlib.Core.Path.{_≡_, sym, ap, _∙_}
 use native.Mathlib.Nat.{add-zero}
 use native.Mathlib.Omega.{arith}
-use lib.Dec.{leb}
-use Rattle.rules.specs.Words.{digit, countOf}
-use Rattle.rules.specs.Programming.{fifthTimed}
-use Rattle.limit_block.specs.Parts.{timedBlock}
+use lib.Dec.{leb, eqb}
+use Rattle.rules.specs.Words.{word, digit, countOf}
+use Rattle.rules.specs.LimitWords.{blockAt, controlType, fifthTimed}
 use Rattle.word.proofs.Laws.{byte-digit, byte-small}
 use Rattle.switch.proofs.Ranges.{count-turn}
 use Rattle.limit_block.proofs.fifth_timed.Statement.{statement}
 use Rattle.limit_block.proofs.fifth_timed.Tie as tie
+
+abbrev timedBlock : List ℕ → ℕ → Bool
+timedBlock file k = eqb (controlType (word file (blockAt k))) 2
 
 abbrev Inv-loop : tie.InvT-loop
 Inv-loop file n lower count₀ m₀ count m =
@@ -51,7 +55,7 @@ loop-again c =
     (omega arith, omega arith, omega (arith, byte-small (c .timed-block .result)), omega (arith, l .inv .3, d, count-turn (x .n) (l .m) (timedBlock (x .file .now)) (omega arith)))
 
 returns : tie.Need-returns Inv-loop μ-loop
-unfolding fifthTimed timedBlock countOf
+unfolding fifthTimed countOf
 returns c =
     let l = c .before .loop in
     let x = c .before .before .before .before .args in

@@ -1,7 +1,7 @@
 -- `limit_block::length_bad` meets its contract: by the type. Assumes nothing.
 use mathlib.Core.Path.{sym, _∙_}
 use borrow.Author.Tests.{eq-eqb, ne-eqb}
-use Rattle.limit_block.specs.Parts.{lengthBit}
+use Rattle.rules.specs.LimitWords.{lengthBad}
 use borrow.Author.Needs.{needs}
 use Rattle.limit_block.proofs.length_bad.Statement.{statement}
 use Rattle.limit_block.proofs.length_bad.Tie as tie
@@ -37,12 +37,12 @@ pulse-bad-requires : tie.Need-pulse-bad-requires
 pulse-bad-requires c κs = search needs
 
 returns : tie.Need-returns
-unfolding lengthBit
+unfolding lengthBad
 returns c =
     rw (c .pulse-bad .ensures, c .before .ahead .ensures) (simp (eq-eqb _ _ (c .before .before .before .if1 .taken), sym (c .before .before .before .before .used-pair .ensures) ∙ c .before .before .if2 .taken))
 
 returns-2 : tie.Need-returns-2
-unfolding lengthBit
+unfolding lengthBad
 returns-2 c = simp (eq-eqb _ _ (c .before .if1 .taken), sym (c .before .before .used-pair .ensures) ∙ c .if2 .left)
 
 array-read-if3 : tie.Need-array-read-if3
@@ -55,12 +55,12 @@ duration-bad-requires : tie.Need-duration-bad-requires
 duration-bad-requires c κs = search needs
 
 returns-3 : tie.Need-returns-3
-unfolding lengthBit
+unfolding lengthBad
 returns-3 c =
     rw (c .duration-bad .ensures, c .before .before .before .used-pair .ensures) (simp (ne-eqb _ _ (c .before .before .if1 .left), eq-eqb _ _ (c .before .if3 .taken)))
 
 returns-4 : tie.Need-returns-4
-unfolding lengthBit
+unfolding lengthBad
 returns-4 c = simp (ne-eqb _ _ (c .before .if1 .left), ne-eqb _ _ (c .if3 .left))
 
 pub length-bad-spec : {M : Type 1} → statement M

@@ -3,7 +3,7 @@ use Prim.Native.Nat.{_*_, _≤_}
 use native.Mathlib.Nat.{mul-le-mul}
 use native.Mathlib.Omega.{arith}
 use borrow.Author.Tests.{eq-eqb, ne-eqb}
-use Rattle.rules.specs.Programming.{pulseBad}
+use Rattle.rules.specs.LimitWords.{pulseBad}
 use borrow.Author.Needs.{needs}
 use Rattle.limit_block.proofs.pulse_bad.Statement.{statement}
 use Rattle.limit_block.proofs.pulse_bad.Tie as tie

@@ -1,8 +1,7 @@
 -- `limit_block::pulses_touch` meets its contract: the pulses in order, then the last against the first round the turn. Assumes nothing.
 use native.Mathlib.Numerals.{add-one}
 use mathlib.Core.Path.{sym, _∙_}
-use Rattle.rules.specs.Programming.{pulsesTouch}
-use Rattle.limit_block.specs.Parts.{someTouch, touchesNext}
+use Rattle.rules.specs.LimitWords.{pulsesTouch}
 use borrow.Author.Needs.{needs}
 use Rattle.limit_block.proofs.pulses_touch.Statement.{statement}
 use Rattle.limit_block.proofs.pulses_touch.Tie as tie
@@ -11,7 +10,7 @@ some-touch-requires : tie.Need-some-touch-requires
 some-touch-requires c κs = search needs
 
 returns : tie.Need-returns
-unfolding pulsesTouch someTouch touchesNext
+unfolding pulsesTouch
 returns c = rw (sym (c .before .some-touch .ensures) ∙ c .if1 .taken)
 
 one-less-requires : tie.Need-one-less-requires
@@ -27,7 +26,7 @@ add-result : tie.Need-add-result
 add-result c = search needs
 
 returns-2 : tie.Need-returns-2
-unfolding pulsesTouch someTouch touchesNext
+unfolding pulsesTouch
 returns-2 c =
     rw (sym (c .before .before .before .some-touch .ensures) ∙ c .before .before .if1 .left, c .pulse-start .ensures, c .before .one-less .ensures, add-one (c .before .before .before .before .args .top))
 

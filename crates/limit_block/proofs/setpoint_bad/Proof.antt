@@ -1,6 +1,6 @@
 -- `limit_block::setpoint_bad` meets its contract: by the type. Assumes nothing.
 use borrow.Author.Tests.{eq-eqb, ne-eqb}
-use Rattle.rules.specs.Programming.{setpointBad, limitPairBad}
+use Rattle.rules.specs.LimitWords.{setpointBad, blockPairBad}
 use borrow.Author.Needs.{needs}
 use Rattle.limit_block.proofs.setpoint_bad.Statement.{statement}
 use Rattle.limit_block.proofs.setpoint_bad.Tie as tie
@@ -25,7 +25,7 @@ pair-bad-requires : tie.Need-pair-bad-requires
 pair-bad-requires c κs = search needs
 
 returns-2 : tie.Need-returns-2
-unfolding setpointBad limitPairBad
+unfolding setpointBad blockPairBad
 returns-2 c = simp (ne-eqb _ _ (c .before .if1 .left)) (c .pair-bad .ensures)
 
 pub setpoint-bad-spec : {M : Type 1} → statement M

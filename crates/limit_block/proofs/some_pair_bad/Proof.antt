@@ -1,17 +1,16 @@
 -- `limit_block::some_pair_bad` meets its contract. The invariant: no pair before k is bad, so that some is where one from k on is. Assumes nothing.
-use Prim.Native.Nat.{_+_, _-_, _*_, _≤_}
+use Prim.Native.Nat.{_+_, _-_, _≤_}
 use mathlib.Core.Path.{_≡_, refl, sym, _∙_}
-use native.Mathlib.Nat.{zero-add}
 use native.Mathlib.Omega.{arith}
 use Rattle.rules.specs.Words.{someOf}
-use Rattle.rules.specs.Programming.{limitPairBad}
+use Rattle.rules.specs.LimitWords.{blockPairBad}
 use Rattle.switch.proofs.Ranges.{some-found, some-passed}
 use borrow.Author.Needs.{needs}
 use Rattle.limit_block.proofs.some_pair_bad.Statement.{statement}
 use Rattle.limit_block.proofs.some_pair_bad.Tie as tie
 
 abbrev Inv-loop : tie.InvT-loop
-Inv-loop top b k₀ k = (k ≤ 8) × (someOf 8 0 (limitPairBad (top + 1) b 0) ≡ someOf (8 - k) k (limitPairBad (top + 1) b 0))
+Inv-loop top b k₀ k = (k ≤ 8) × (someOf 8 0 (blockPairBad (top + 1) b) ≡ someOf (8 - k) k (blockPairBad (top + 1) b))
 
 abbrev μ-loop : tie.MeasureT-loop
 μ-loop top b k₀ k = 8 - k
@@ -49,11 +48,9 @@ pair-bad-requires c κs = tt
 -- the pair that the turn tests
 tested : (c : tie.After-pair-bad Inv-loop μ-loop) →
     (let x = c .before .before .before .args in
-    limitPairBad (x .top + 1) (x .t2) 0 (c .before .before .loop .k) ≡ c .pair-bad .result)
-unfolding limitPairBad
-tested c =
-    let k = c .before .before .loop .k in
-    rw (zero-add (2 * k + 3), zero-add (2 * k + 4)) (sym (c .pair-bad .ensures))
+    blockPairBad (x .top + 1) (x .t2) (c .before .before .loop .k) ≡ c .pair-bad .result)
+unfolding blockPairBad
+tested c = sym (c .pair-bad .ensures)
 
 returns : tie.Need-returns Inv-loop μ-loop
 returns c =

@@ -1,17 +1,22 @@
 -- `limit_block::some_touch` meets its contract. The invariant: no pulse before j touches the next, so that some does where one from j on does. Assumes nothing.
-use Prim.Native.Nat.{_-_, _≤_}
+use Prim.Native.Nat.{ℕ, _+_, _-_, _≤_}
+use mathlib.Core.Bool.{Bool}
 use mathlib.Core.Path.{_≡_, sym}
 use native.Mathlib.Omega.{arith}
+use lib.Dec.{leb}
 use borrow.Author.Tests.{le-leb, lt-leb}
 use Rattle.rules.specs.Words.{someOf}
-use Rattle.limit_block.specs.Parts.{touchesNext, someTouch}
+use Rattle.rules.specs.Switches.{pulseStart}
 use Rattle.switch.proofs.Ranges.{some-found, some-passed}
 use borrow.Author.Needs.{needs}
 use Rattle.limit_block.proofs.some_touch.Statement.{statement}
 use Rattle.limit_block.proofs.some_touch.Tie as tie
 
+abbrev touchesNext : ℕ → ℕ → ℕ → ℕ → Bool
+touchesNext r q k j = leb (pulseStart r q k (j + 1)) (pulseStart r q k j + k)
+
 abbrev Inv-loop : tie.InvT-loop
-Inv-loop r q k gaps j₀ j = (j ≤ gaps) × (someTouch r q k ≡ someOf (gaps - j) j (touchesNext r q k))
+Inv-loop r q k gaps j₀ j = (j ≤ gaps) × (someOf (q - 1) 0 (touchesNext r q k) ≡ someOf (gaps - j) j (touchesNext r q k))
 
 abbrev μ-loop : tie.MeasureT-loop
 μ-loop r q k gaps j₀ j = gaps - j
@@ -20,7 +25,6 @@ one-less-requires : tie.Need-one-less-requires Inv-loop μ-loop
 one-less-requires c κs = tt
 
 loop-holds : tie.Need-loop-holds Inv-loop μ-loop
-unfolding someTouch
 loop-holds c =
     let e : c .one-less .result - 0 ≡ c .before .args .q - 1 = omega (arith, c .one-less .ensures) in
     (omega arith, rw e)
@@ -44,7 +48,6 @@ add-if1 : tie.Need-add-if1 Inv-loop μ-loop
 add-if1 c = search needs
 
 returns : tie.Need-returns Inv-loop μ-loop
-unfolding touchesNext
 returns c =
     let l = c .before .before .before .before .loop in
     sym (some-found _ (l .j) _ _ (c .before .before .before .loop-test .taken) (l .inv .1) (rw (← c .before .pulse-start2 .ensures, ← c .before .before .pulse-start .ensures) (le-leb _ _ (c .if1 .taken))))
@@ -56,7 +59,6 @@ loop-less : tie.Need-loop-less Inv-loop μ-loop
 loop-less c = omega arith
 
 loop-again : tie.Need-loop-again Inv-loop μ-loop
-unfolding touchesNext
 loop-again c =
     let l = c .before .before .before .before .loop in
     (omega arith, some-passed _ (l .j) _ _ (c .before .before .before .loop-test .taken) (l .inv .1) (rw (← c .before .pulse-start2 .ensures, ← c .before .before .pulse-start .ensures) (lt-leb _ _ (c .if1 .left))))

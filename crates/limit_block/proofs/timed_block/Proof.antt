@@ -1,8 +1,4 @@
 -- `limit_block::timed_block` meets its contract: the block's control word. Assumes nothing.
-use mathlib.Core.Path.{_≡_}
-use native.Mathlib.Omega.{arith}
-use Prim.Native.Nat.{_+_, _*_, _-_}
-use Rattle.limit_block.specs.Parts.{timedBlock}
 use borrow.Author.Needs.{needs}
 use Rattle.limit_block.proofs.timed_block.Statement.{statement}
 use Rattle.limit_block.proofs.timed_block.Tie as tie
@@ -14,11 +10,7 @@ word-at-requires : tie.Need-word-at-requires
 word-at-requires c κs = search needs
 
 returns : tie.Need-returns
-unfolding timedBlock
-returns c =
-    let n = c .before .before .before .args .n in
-    let e : 19 * n - 17 + 0 ≡ 19 * n - 17 = omega arith in
-    rw (c .word-at .ensures, c .before .block-start .ensures, e)
+returns c = rw (c .word-at .ensures, c .before .block-start .ensures)
 
 pub timed-block-spec : {M : Type 1} → statement M
 timed-block-spec = tie.close (tie.spec block-start-requires word-at-requires returns)

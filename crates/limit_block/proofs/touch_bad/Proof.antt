@@ -4,7 +4,7 @@ use lib.ListN.{getD}
 use mathlib.Core.Path.{sym, _∙_}
 use mathlib.Core.Bool.{and-false}
 use borrow.Author.Tests.{eq-eqb, ne-eqb}
-use Rattle.limit_block.specs.Parts.{touchBit}
+use Rattle.rules.specs.LimitWords.{touchBad}
 use borrow.Author.Needs.{needs}
 use Rattle.limit_block.proofs.touch_bad.Statement.{statement}
 use Rattle.limit_block.proofs.touch_bad.Tie as tie
@@ -13,15 +13,15 @@ array-read-if1 : tie.Need-array-read-if1
 array-read-if1 c = search needs
 
 returns : tie.Need-returns
-unfolding touchBit
+unfolding touchBad
 returns c = simp (ne-eqb _ _ (c .if1 .taken))
 
 returns-2 : tie.Need-returns-2
-unfolding touchBit
+unfolding touchBad
 returns-2 c = simp (c .if2 .taken, and-false)
 
 returns-3 : tie.Need-returns-3
-unfolding touchBit
+unfolding touchBad
 returns-3 c = simp (c .before .if2 .left, c .if3 .taken, and-false)
 
 array-read-used-pair : tie.Need-array-read-used-pair
@@ -52,14 +52,16 @@ pulses-touch-requires : tie.Need-pulses-touch-requires
 pulses-touch-requires c κs = search needs
 
 returns-4 : tie.Need-returns-4
-unfolding touchBit
+unfolding touchBad
 returns-4 c =
-    let b = c .before .before .before .before .before .before .before .args .t4 in
-    rw (eq-eqb (getD b 0 0 % 4) 1 (c .before .before .before .before .before .before .if1 .left), sym (c .before .before .before .used-pair .ensures) ∙ c .before .before .if4 .taken, c .before .before .before .before .before .if2 .left, c .before .before .before .before .if3 .left, c .pulses-touch .ensures, c .before .ahead .ensures)
+    let pulse = c .before .before .before .before .before .before in
+    let b = pulse .before .args .t4 in
+    rw (eq-eqb (getD b 0 0 % 4) 1 (pulse .if1 .left), sym (c .before .before .before .used-pair .ensures) ∙ c .before .before .if4 .taken)
+    (rw (c .before .before .before .before .before .if2 .left, c .before .before .before .before .if3 .left, c .pulses-touch .ensures, c .before .ahead .ensures))
 
 returns-5 : tie.Need-returns-5
-unfolding touchBit
-returns-5 c = simp (eq-eqb _ _ (c .before .before .before .before .if1 .left), sym (c .before .used-pair .ensures) ∙ c .if4 .left)
+unfolding touchBad
+returns-5 c = simp (sym (c .before .used-pair .ensures) ∙ c .if4 .left, and-false)
 
 pub touch-bad-spec : {M : Type 1} → statement M
 touch-bad-spec =

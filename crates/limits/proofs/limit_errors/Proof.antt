@@ -1,6 +1,6 @@
 -- `limits::limit_errors` meets its contract: the reserved words first, then the bits of the lowest failing output. Assumes nothing.
 use borrow.Author.Tests.{eq-eqb, ne-eqb}
-use Rattle.rules.specs.Programming.{limitErrors, limitBits}
+use Rattle.rules.specs.LimitWords.{limitErrors}
 use borrow.Author.Needs.{needs}
 use Rattle.limits.proofs.limit_errors.Statement.{statement}
 use Rattle.limits.proofs.limit_errors.Tie as tie
@@ -19,15 +19,12 @@ returns-2 : tie.Need-returns-2
 unfolding limitErrors
 returns-2 c = rw (← c .before .before .before .limit-reserved .ensures, ← c .before .failing-limit .ensures) (rw (c .before .before .if1 .left, eq-eqb _ _ (c .if2 .taken)))
 
-is-unassigned-requires : tie.Need-is-unassigned-requires
-is-unassigned-requires c κs = search needs
-
-bits-of-requires : tie.Need-bits-of-requires
-bits-of-requires c κs = search needs
+limit-bits-requires : tie.Need-limit-bits-requires
+limit-bits-requires c κs = search needs
 
 returns-3 : tie.Need-returns-3
-unfolding limitErrors limitBits
-returns-3 c = rw (← c .before .before .before .before .before .before .before .limit-reserved .ensures, c .bits-of .ensures, c .before .is-unassigned .ensures, ← c .before .before .before .before .before .failing-limit .ensures) (rw (c .before .before .before .before .before .before .if1 .left, ne-eqb _ _ (c .before .before .before .before .if2 .left)))
+unfolding limitErrors
+returns-3 c = rw (← c .before .before .before .before .limit-reserved .ensures, c .limit-bits .ensures, ← c .before .before .failing-limit .ensures) (rw (c .before .before .before .if1 .left, ne-eqb _ _ (c .before .if2 .left)))
 
 pub limit-errors-spec : {M : Type 1} → statement M
 limit-errors-spec =
@@ -37,6 +34,5 @@ limit-errors-spec =
     returns
     failing-limit-requires
     returns-2
-    is-unassigned-requires
-    bits-of-requires
+    limit-bits-requires
     returns-3)

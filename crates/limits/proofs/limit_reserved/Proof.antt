@@ -1,5 +1,5 @@
 -- `limits::limit_reserved` meets its contract: the reserved bits of word 0, then the words. Assumes nothing.
-use Rattle.rules.specs.Programming.{limitReserved}
+use Rattle.rules.specs.LimitWords.{limitReserved}
 use borrow.Author.Needs.{needs}
 use Rattle.limits.proofs.limit_reserved.Statement.{statement}
 use Rattle.limits.proofs.limit_reserved.Tie as tie

@@ -1,5 +1,5 @@
 -- `limits::limits_from` meets its contract: the invariant is that the first `i` limits are the table of the first `i` blocks. Assumes nothing.
-use Prim.Native.Nat.{_+_, _-_, _≤_}
+use Prim.Native.Nat.{_-_, _≤_}
 use mathlib.Core.Path.{_≡_, refl, sym, _∙_}
 use native.Mathlib.Omega.{arith}
 use lib.ListN.{length, take, length-set}
@@ -7,7 +7,7 @@ use lib.Seq.{take-suc-set, take-all}
 use native.Mathlib.Numerals.{add-one}
 use native.Mathlib.Nat.{add-comm}
 use Rattle.rules.specs.Words.{table}
-use Rattle.rules.specs.Programming.{limitFrom}
+use Rattle.rules.specs.LimitWords.{limitFrom}
 use Rattle.rules.proofs.Packing.{table-more}
 use borrow.Author.Needs.{needs}
 use Rattle.limits.proofs.limits_from.Statement.{statement}

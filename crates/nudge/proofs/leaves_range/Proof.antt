@@ -1,7 +1,6 @@
 -- `nudge::leaves_range` meets its contract: down, or up. Assumes nothing.
-use Rattle.rules.specs.Programming.{leavesRange}
+use Rattle.rules.specs.Nudge.{leavesRange}
 use Rattle.nudge.proofs.Laws.{leb-both}
-use borrow.Author.Needs.{needs}
 use Rattle.nudge.proofs.leaves_range.Statement.{statement}
 use Rattle.nudge.proofs.leaves_range.Tie as tie
 

@@ -1,10 +1,8 @@
 -- `nudge::nudge_cycle` meets its contract: Idle, or a cycle that acts. Assumes nothing.
-use mathlib.Core.Bool.{true, false}
-use mathlib.Core.Path.{_≡_, refl, sym, _∙_}
-use Rattle.rules.specs.declared.Cycle.the-variants.{NudgeCycle}
-use Rattle.rules.specs.Programming.{acts, cycle, idleCycle, nudgeCycle}
-use Rattle.rules.specs.Card.{nudgeCall}
 use borrow.Author.Needs.{needs}
+use Rattle.rules.specs.Cycle.{cycle}
+use Rattle.rules.specs.Nudge.{nudgeCycle}
+use Rattle.rules.specs.Card.{nudgeCall}
 use Rattle.nudge.proofs.nudge_cycle.Statement.{statement}
 use Rattle.nudge.proofs.nudge_cycle.Tie as tie
 
@@ -14,8 +12,8 @@ acts-requires c κs = search needs
 bit-requires : tie.Need-bit-requires
 bit-requires c κs = search needs
 
-opened-requires : tie.Need-opened-requires
-opened-requires c κs = search needs
+underway-requires : tie.Need-underway-requires
+underway-requires c κs = search needs
 
 nudge-acts-requires : tie.Need-nudge-acts-requires
 nudge-acts-requires c κs = search needs
@@ -26,8 +24,9 @@ finished-requires c κs = search needs
 returns : tie.Need-returns
 unfolding nudgeCall nudgeCycle cycle
 returns c =
-    let a : acts NudgeCycle (c .before .before .before .before .before .before .before .before .before .args .w) (c .before .before .before .before .before .before .before .before .before .args .m .configuration) ≡ true = unfold acts in (sym (c .before .before .before .before .before .acts .ensures) ∙ c .before .before .before .before .if1 .taken) in
-    rw (c .finished .ensures, c .before .nudge-acts .ensures, c .before .before .opened .ensures, c .before .before .before .bit .ensures) (rw a)
+    let at = c .before .before .before .before in
+    rw (c .finished .ensures, c .before .nudge-acts .ensures, c .before .before .underway .ensures, c .before .before .before .bit .ensures, ← at .before .acts .ensures)
+    (rw (at .if1 .taken))
 
 idle-cycle-requires : tie.Need-idle-cycle-requires
 idle-cycle-requires c κs = search needs
@@ -36,10 +35,9 @@ finished-requires-2 : tie.Need-finished-requires-2
 finished-requires-2 c κs = search needs
 
 returns-2 : tie.Need-returns-2
-unfolding nudgeCall nudgeCycle cycle idleCycle
+unfolding nudgeCall nudgeCycle cycle
 returns-2 c =
-    let a : acts NudgeCycle (c .before .before .before .before .before .before .before .args .w) (c .before .before .before .before .before .before .before .args .m .configuration) ≡ false = unfold acts in (sym (c .before .before .before .acts .ensures) ∙ c .before .before .if1 .left) in
-    rw (c .finished2 .ensures, c .before .idle-cycle .ensures) (rw a)
+    rw (c .finished2 .ensures, c .before .idle-cycle .ensures, ← c .before .before .before .acts .ensures) (rw (c .before .before .if1 .left))
 
 pub nudge-cycle-spec : {M : Type 1} → statement M
 nudge-cycle-spec =
@@ -47,7 +45,7 @@ nudge-cycle-spec =
     (tie.spec
     acts-requires
     bit-requires
-    opened-requires
+    underway-requires
     nudge-acts-requires
     finished-requires
     returns

@@ -1,5 +1,5 @@
 -- `nudge::result_bad` meets its contract: 0/0, or the checks of a limit block. Assumes nothing.
-use Rattle.rules.specs.Programming.{resultBad}
+use Rattle.rules.specs.Nudge.{resultBad}
 use borrow.Author.Needs.{needs}
 use Rattle.nudge.proofs.result_bad.Statement.{statement}
 use Rattle.nudge.proofs.result_bad.Tie as tie

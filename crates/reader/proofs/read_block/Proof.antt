@@ -1,10 +1,10 @@
 -- `reader::read_block` meets its contract: where the reader does not refuse, the part lies within the file. Assumes nothing.
 use Prim.Native.Nat.{_+_, _-_, _*_, _≤_}
-use mathlib.Core.Path.{_≡_, refl, sym, _∙_}
+use mathlib.Core.Path.{_≡_, sym, _∙_}
 use native.Mathlib.Omega.{arith}
 use lib.ListN.{length}
 use borrow.Author.Tests.{eq-eqb, ne-eqb}
-use Rattle.rules.specs.Programming.{readerRefusal, readerPart}
+use Rattle.rules.specs.Reader.{readerRefusal, readerPart}
 use Rattle.reader.proofs.Laws.{Readable, readable}
 use borrow.Author.Needs.{needs}
 use Rattle.reader.proofs.read_block.Statement.{statement}

@@ -1,7 +1,6 @@
 -- `setup::detector_bad` meets its contract: test by test. Assumes nothing.
 use borrow.Author.Tests.{lt-ltb, le-ltb, eq-eqb, ne-eqb}
-use Rattle.rules.specs.Programming.{detectorBad}
-use borrow.Author.Needs.{needs}
+use Rattle.rules.specs.SetupWords.{detectorBad}
 use Rattle.setup.proofs.detector_bad.Statement.{statement}
 use Rattle.setup.proofs.detector_bad.Tie as tie
 

@@ -1,6 +1,5 @@
 -- `setup::differ` meets its contract: the exclusive or. Assumes nothing.
 use Rattle.setup.proofs.Laws.{xor-true, xor-false}
-use borrow.Author.Needs.{needs}
 use Rattle.setup.proofs.differ.Statement.{statement}
 use Rattle.setup.proofs.differ.Tie as tie
 

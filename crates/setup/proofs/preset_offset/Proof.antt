@@ -1,6 +1,6 @@
 -- `setup::preset_offset` meets its contract: the difference, modulo SF, in natural numbers. Assumes nothing.
 use Prim.Native.Nat.{_+_, _-_, _%_}
-use mathlib.Core.Path.{refl, sym}
+use mathlib.Core.Path.{sym}
 use native.Mathlib.Omega.{arith}
 use Rattle.rules.proofs.Laws.{mod-below}
 use Rattle.setup.proofs.Laws.{preset-zero, preset-natural}

@@ -1,7 +1,6 @@
 -- `setup::scalars_bad` meets its contract: test by test. Assumes nothing.
 use borrow.Author.Tests.{lt-ltb, le-ltb, eq-eqb, ne-eqb}
-use Rattle.rules.specs.Programming.{scalarsBad}
-use borrow.Author.Needs.{needs}
+use Rattle.rules.specs.SetupWords.{scalarsBad}
 use Rattle.setup.proofs.scalars_bad.Statement.{statement}
 use Rattle.setup.proofs.scalars_bad.Tie as tie
 

@@ -1,55 +1,29 @@
 -- `setup::setup_errors` meets its contract: bit by bit. Assumes nothing.
 use mathlib.Core.Path.{sym}
 use native.Mathlib.Nat.{add-zero}
-use Rattle.rules.specs.Programming.{setupErrors}
 use borrow.Author.Needs.{needs}
+use Rattle.rules.specs.Words.{bits}
+use Rattle.rules.specs.SetupWords.{setupErrors}
 use Rattle.setup.proofs.setup_errors.Statement.{statement}
 use Rattle.setup.proofs.setup_errors.Tie as tie
 
-word-at-requires : tie.Need-word-at-requires
-word-at-requires c κs = search needs
+sf-fails-requires : tie.Need-sf-fails-requires
+sf-fails-requires c κs = search needs
 
-sf-judged-requires : tie.Need-sf-judged-requires
-sf-judged-requires c κs = search needs
+too-great-requires : tie.Need-too-great-requires
+too-great-requires c κs = search needs
 
-sf-bad-requires : tie.Need-sf-bad-requires
-sf-bad-requires c κs = search needs
+too-great-requires-2 : tie.Need-too-great-requires-2
+too-great-requires-2 c κs = search needs
 
-word-at-requires-2 : tie.Need-word-at-requires-2
-word-at-requires-2 c κs = search needs
+detector-fails-requires : tie.Need-detector-fails-requires
+detector-fails-requires c κs = search needs
 
-word-at-requires-3 : tie.Need-word-at-requires-3
-word-at-requires-3 c κs = search needs
+detector-fails-requires-2 : tie.Need-detector-fails-requires-2
+detector-fails-requires-2 c κs = search needs
 
-word-at-requires-4 : tie.Need-word-at-requires-4
-word-at-requires-4 c κs = search needs
-
-word-at-requires-5 : tie.Need-word-at-requires-5
-word-at-requires-5 c κs = search needs
-
-detector-bad-requires : tie.Need-detector-bad-requires
-detector-bad-requires c κs = search needs
-
-word-at-requires-6 : tie.Need-word-at-requires-6
-word-at-requires-6 c κs = search needs
-
-word-at-requires-7 : tie.Need-word-at-requires-7
-word-at-requires-7 c κs = search needs
-
-detector-bad-requires-2 : tie.Need-detector-bad-requires-2
-detector-bad-requires-2 c κs = search needs
-
-word-at-requires-8 : tie.Need-word-at-requires-8
-word-at-requires-8 c κs = search needs
-
-word-at-requires-9 : tie.Need-word-at-requires-9
-word-at-requires-9 c κs = search needs
-
-word-at-requires-10 : tie.Need-word-at-requires-10
-word-at-requires-10 c κs = search needs
-
-scalars-bad-requires : tie.Need-scalars-bad-requires
-scalars-bad-requires c κs = search needs
+scalars-fail-requires : tie.Need-scalars-fail-requires
+scalars-fail-requires c κs = search needs
 
 bits-requires : tie.Need-bits-requires
 bits-requires c κs = search needs
@@ -62,31 +36,32 @@ add-result c = search needs
 
 returns : tie.Need-returns
 unfolding setupErrors
-returns c = rw (c .before .before .bits .ensures .0, c .before .before .before .scalars-bad .ensures, c .before .before .before .before .before .before .before .detector-bad2 .ensures, c .before .before .before .before .before .before .before .before .before .before .detector-bad .ensures, c .before .before .before .before .before .before .before .before .before .before .before .before .before .before .before .sf-bad .ensures, c .before .before .before .before .before .before .before .before .before .before .before .before .before .before .before .before .sf-judged .ensures, c .before .before .before .before .word-at10 .ensures, c .before .before .before .before .before .word-at9 .ensures, c .before .before .before .before .before .before .word-at8 .ensures, c .before .before .before .before .before .before .before .before .word-at7 .ensures, c .before .before .before .before .before .before .before .before .before .word-at6 .ensures, c .before .before .before .before .before .before .before .before .before .before .before .word-at5 .ensures, c .before .before .before .before .before .before .before .before .before .before .before .before .word-at4 .ensures, c .before .before .before .before .before .before .before .before .before .before .before .before .before .word-at3 .ensures, c .before .before .before .before .before .before .before .before .before .before .before .before .before .before .word-at2 .ensures, c .before .before .before .before .before .before .before .before .before .before .before .before .before .before .before .before .before .word-at .ensures, ← c .before .setup-reserved .ensures) (rw (c .if1 .taken))
+returns c =
+    let at = c .before .before in
+    let read = at .before .before .before in
+    rw (at .bits .ensures .0, at .before .scalars-fail .ensures, at .before .before .detector-fails2 .ensures, read .detector-fails .ensures)
+    (rw (read .before .too-great2 .ensures, read .before .before .too-great .ensures, read .before .before .before .sf-fails .ensures, ← c .before .setup-reserved .ensures)
+    (rw (c .if1 .taken)))
 
 returns-2 : tie.Need-returns-2
 unfolding setupErrors
-returns-2 c = rw (c .before .before .bits .ensures .0, c .before .before .before .scalars-bad .ensures, c .before .before .before .before .before .before .before .detector-bad2 .ensures, c .before .before .before .before .before .before .before .before .before .before .detector-bad .ensures, c .before .before .before .before .before .before .before .before .before .before .before .before .before .before .before .sf-bad .ensures, c .before .before .before .before .before .before .before .before .before .before .before .before .before .before .before .before .sf-judged .ensures, c .before .before .before .before .word-at10 .ensures, c .before .before .before .before .before .word-at9 .ensures, c .before .before .before .before .before .before .word-at8 .ensures, c .before .before .before .before .before .before .before .before .word-at7 .ensures, c .before .before .before .before .before .before .before .before .before .word-at6 .ensures, c .before .before .before .before .before .before .before .before .before .before .before .word-at5 .ensures, c .before .before .before .before .before .before .before .before .before .before .before .before .word-at4 .ensures, c .before .before .before .before .before .before .before .before .before .before .before .before .before .word-at3 .ensures, c .before .before .before .before .before .before .before .before .before .before .before .before .before .before .word-at2 .ensures, c .before .before .before .before .before .before .before .before .before .before .before .before .before .before .before .before .before .word-at .ensures, ← c .before .setup-reserved .ensures) (rw (c .if1 .left) (sym (add-zero _)))
+returns-2 c =
+    let at = c .before .before in
+    let read = at .before .before .before in
+    rw (at .bits .ensures .0, at .before .scalars-fail .ensures, at .before .before .detector-fails2 .ensures, read .detector-fails .ensures)
+    (rw (read .before .too-great2 .ensures, read .before .before .too-great .ensures, read .before .before .before .sf-fails .ensures, ← c .before .setup-reserved .ensures)
+    (rw (c .if1 .left) (sym (add-zero _))))
 
 pub setup-errors-spec : {M : Type 1} → statement M
 setup-errors-spec =
     tie.close
     (tie.spec
-    word-at-requires
-    sf-judged-requires
-    sf-bad-requires
-    word-at-requires-2
-    word-at-requires-3
-    word-at-requires-4
-    word-at-requires-5
-    detector-bad-requires
-    word-at-requires-6
-    word-at-requires-7
-    detector-bad-requires-2
-    word-at-requires-8
-    word-at-requires-9
-    word-at-requires-10
-    scalars-bad-requires
+    sf-fails-requires
+    too-great-requires
+    too-great-requires-2
+    detector-fails-requires
+    detector-fails-requires-2
+    scalars-fail-requires
     bits-requires
     setup-reserved-requires
     add-result

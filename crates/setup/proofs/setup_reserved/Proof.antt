@@ -1,5 +1,5 @@
 -- `setup::setup_reserved` meets its contract: the reserved bits of word 0, then the words. Assumes nothing.
-use Rattle.rules.specs.Programming.{setupReserved}
+use Rattle.rules.specs.SetupWords.{setupReserved}
 use borrow.Author.Needs.{needs}
 use Rattle.setup.proofs.setup_reserved.Statement.{statement}
 use Rattle.setup.proofs.setup_reserved.Tie as tie

@@ -1,7 +1,6 @@
 -- `setup::sf_bad` meets its contract: test by test. Assumes nothing.
 use borrow.Author.Tests.{lt-ltb, le-ltb}
-use Rattle.rules.specs.Programming.{sfBad}
-use borrow.Author.Needs.{needs}
+use Rattle.rules.specs.SetupWords.{sfBad}
 use Rattle.setup.proofs.sf_bad.Statement.{statement}
 use Rattle.setup.proofs.sf_bad.Tie as tie
 

@@ -1,5 +1,5 @@
 -- `setup::sf_judged` meets its contract: 1024 for a bad one. Assumes nothing.
-use Rattle.rules.specs.Programming.{sfJudged}
+use Rattle.rules.specs.SetupWords.{sfJudged}
 use borrow.Author.Needs.{needs}
 use Rattle.setup.proofs.sf_judged.Statement.{statement}
 use Rattle.setup.proofs.sf_judged.Tie as tie

@@ -16,6 +16,8 @@
  *
  * A caller owes only what C asks of it: a pointer to a module of its own that no other call is using, with 0 or 1 in each bool (a module that
  * was set to zero, or powered up, has that), and a pointer to `words` words. A file pointer is aligned and not null, also where `words` is 0.
+ * The module is the engine's own, lent as it stands: a call copies nothing to another form. A number that the rules do not name (a mode of 6, a
+ * detector of 3, an owner of 7) lights nothing.
  */
 #ifndef CHIMNEYRYE_H
 #define CHIMNEYRYE_H
@@ -111,7 +113,7 @@ typedef struct {
 typedef struct {
     chimneyrye_programmed_setup setup;
     chimneyrye_programmed_group groups[6];
-    uint16_t owners[32]; /* the group that each output was dealt to, from 1; 0 for none */
+    uint16_t owners[32]; /* the group that each output was dealt to, 1 to 6; 0 for none */
     chimneyrye_programmed_limit limits[32];
 } chimneyrye_programming;
 
@@ -147,15 +149,16 @@ typedef struct {
     uint32_t sum;
 } chimneyrye_window;
 
+/* A sum of movements. */
 typedef struct {
     bool negative;
     uint32_t counts;
-} chimneyrye_travel;
+} chimneyrye_movement;
 
 typedef struct {
     chimneyrye_last last;
-    chimneyrye_window shortwindow, longwindow;
-    chimneyrye_travel travel;
+    chimneyrye_window shortwindow, longwindow; /* of c, and of C */
+    chimneyrye_movement c;
     uint32_t rpm;
 } chimneyrye_speed;
 
@@ -170,13 +173,23 @@ typedef struct {
     uint32_t left;
 } chimneyrye_timed_state;
 
+/* What a start resets: a module start all of it. */
 typedef struct {
     chimneyrye_speed speed;
     chimneyrye_group_state groups[6];
     uint16_t positions[6]; /* Group Positions that the last step left */
     chimneyrye_timed_state timed[32];
+} chimneyrye_since_start;
+
+/* What runs on since power-up. */
+typedef struct {
     uint16_t position; /* Machine Position of the last step that was not answered 11 */
     uint16_t virtuals; /* virtual outputs of the last step */
+} chimneyrye_kept;
+
+typedef struct {
+    chimneyrye_since_start since;
+    chimneyrye_kept kept;
 } chimneyrye_state;
 
 typedef struct {
@@ -206,7 +219,7 @@ typedef struct {
     uint16_t changed; /* with SLCINT, how many virtual outputs changed */
 } chimneyrye_answer;
 
-/* Power-up: 0, or 3 for a number that is no module's, and then the place holds an 8511's defaults. Nothing is read of the module. */
+/* Power-up: 0, or 3 for a number that is no module's, and then the module stays as it was. */
 uint16_t chimneyrye_power_up(chimneyrye_module *module, uint16_t number);
 
 /* A programming cycle. The file's status words are rewritten where the cycle acts; setup and group take M0, limit M1. */

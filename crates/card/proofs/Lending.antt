@@ -1,5 +1,5 @@
 -- A call that takes a value on a lent module: it lends the module to a call by value, of which only what it ensures is known. `Says` is that claim, of the module before,
--- the value, the module after and the answer. The walk is engine's `Lent`; here it is tied to the two contracts, at any plain types of the value and the answer.
+-- the value, the module after and the answer. The walk is `Lent`; here it is tied to the two contracts, at any plain types of the value and the answer.
 -- Assumes nothing.
 use mathlib.Core.Path.{refl}
 use Prim.Native.Nat.{ℕ}
@@ -24,24 +24,23 @@ use denote.Builtin.{RefMutOf}
 use denote.Ref.{RefT, MutRef, now, ptr-vals, mut-tells}
 use denote.Signature.{Signature, plain}
 use denote.Steps.{owned, nothing}
-use denote.Struct.Laws as LL
 use denote.Triple.Statement.{Contract, Triple}
 use denote.Triple.Clauses.{Ended, Clauses, ensured, lasts}
 use denote.Triple.Entry.{onEntry}
 use denote.Triple.Spec.{Spec, Meets, tripleOf, exits}
 use denote.Triple.Walked.{says, Stays, stay-ref, stay-none, walkOf, goes-none, goes-ref, ends-at, walked, walk-meets}
 use denote.Exit.{yes, unchanged}
-use Rattle.plain.specs.declared.PlainModule.{PlainModule}
-use Rattle.plain.proofs.PlainModule as T
-use Rattle.plain.proofs.PlainModule.Laws as T′
-use Rattle.engine.proofs.Lent as Lent
-use Rattle.engine.proofs.Lent.{Single, at, of}
+use Rattle.rules.specs.declared.Module.{Module}
+use Rattle.rules.proofs.Module as T
+use Rattle.rules.proofs.Module.Laws as T′
+use Rattle.card.proofs.Lent as Lent
+use Rattle.card.proofs.Lent.{Single, at, of}
 
 -- a type of plain data, which lies as one machine value and is at exit as it was passed
 abbrev pub plainly : Ty → RattleType → RattleType
 plainly τ R = record { Denot = R .Denot; mir = τ ∷ []; written = R .written; reaches = R .reaches; own = R .own; exit = λ k. unchanged; coded = R .coded }
 
-module _ (τS τR : Ty) (ν : Sym) (S₀ R₀ D₀ : RattleType) (card : D₀ .Denot → PlainModule) (answer : D₀ .Denot → R₀ .Denot) (Says : PlainModule → S₀ .Denot → PlainModule → R₀ .Denot → Type 0) where
+module _ (τS τR : Ty) (ν : Sym) (S₀ R₀ D₀ : RattleType) (card : D₀ .Denot → Module) (answer : D₀ .Denot → R₀ .Denot) (Says : Module → S₀ .Denot → Module → R₀ .Denot → Type 0) where
   abbrev S : RattleType
   S = plainly τS S₀
 
@@ -95,7 +94,7 @@ module _ (τS τR : Ty) (ν : Sym) (S₀ R₀ D₀ : RattleType) (card : D₀ .D
     abbrev pub Value : Contract 𝓤
     Value = tripleOf 𝓤 H A by-value value-spec
 
-    did-of : (h : PlainModule) (s : S₀ .Denot) (r : D₀ .Denot) → ent 𝓤 (ensured 𝓤 H A by-value-ended value-clauses tt (h, (s, tt)) tt r) (fact 𝓤 (Says h s (card r) (answer r)))
+    did-of : (h : Module) (s : S₀ .Denot) (r : D₀ .Denot) → ent 𝓤 (ensured 𝓤 H A by-value-ended value-clauses tt (h, (s, tt)) tt r) (fact 𝓤 (Says h s (card r) (answer r)))
     did-of h s r = exE 𝓤 _ (λ ws. snd∗ 𝓤 (sem 𝓤 H A (lasts by-value-ended tt (h, (s, tt)) ws)) (fact 𝓤 (Says h s (card r) (answer r))))
 
     module _ (W : Given 𝓤 H A) (z : Single 𝓤 H A τS S) (a : Single 𝓤 H A τR R) where
@@ -111,8 +110,8 @@ module _ (τS τR : Ty) (ν : Sym) (S₀ R₀ D₀ : RattleType) (card : D₀ .D
 
       module _ (d-tells : Tells D (Is D) (λ d. both d ∷ [])) (d-typed : (d : D₀ .Denot) (v : Val) → Is D d (v ∷ []) → Holds (hasTy τD v) × WT v)
           (is-card : (d : D₀ .Denot) (v : Val) → Is D d (v ∷ []) → Is T.the-row (card d) (t .val (card d) ∷ [])) (is-answer : (d : D₀ .Denot) (v : Val) → Is D d (v ∷ []) → Is R (answer d) (a .val (answer d) ∷ [])) where
-        module _ (κ : Lft) (q : Share) (b o : ℕ) (γ : GName) (h : PlainModule) (s : S₀ .Denot) where
-          abbrev x : RefT PlainModule × (S₀ .Denot × Unit {0})
+        module _ (κ : Lft) (q : Share) (b o : ℕ) (γ : GName) (h : Module) (s : S₀ .Denot) where
+          abbrev x : RefT Module × (S₀ .Denot × Unit {0})
           x = (record { ptr = (b, o); name = γ; now = h }, (s, tt))
 
           abbrev hv : Val

@@ -1,5 +1,5 @@
 -- A function that copies a value out of a place that is lent, hands it with a lent slice of words to a call by value, stores what the call made of it where it was, and
--- returns the call's answer: the walk of its MIR, by hand, from what the call ensures. It is engine's `Lent` with a slice in the place of the second value. The slice is
+-- returns the call's answer: the walk of its MIR, by hand, from what the call ensures. It is `Lent` with a slice in the place of the second value. The slice is
 -- given to the call for good, at its own lifetime. The types and their machine values are variables here, so nothing is computed of them.
 -- Assumes nothing.
 use mathlib.Core.Path.{refl, ap}
@@ -30,7 +30,7 @@ use denote.Slice.{sliceTy, sliceVal, MutSlice, Room, finally}
 use denote.Steps.{only, opens, closes, owned, peeks, heard}
 use denote.Struct.Steps.{spelt}
 use denote.Triple.Call.{calls-from}
-use Rattle.engine.proofs.Lent.{at, Single}
+use Rattle.card.proofs.Lent.{at, Single}
 
 -- the function's MIR, where the call is f, the lent place is of type τT, the answer of τR and the call's result of τD
 abbrev pub function : Name → Ty → Ty → Ty → Ty → Fn

@@ -13,24 +13,24 @@ use denote.Builtin.{u16}
 use denote.Struct.Laws as LL
 use denote.Triple.Statement.{Contract, Triple}
 use denote.Triple.Spec.{Meets}
-use Rattle.plain.specs.declared.PlainModule.{PlainModule}
-use Rattle.plain.specs.declared.PlainProgrammed.{PlainProgrammed}
-use Rattle.plain.proofs.PlainProgrammed as D
-use Rattle.plain.proofs.PlainProgrammed.Laws as D′
-use Rattle.engine.proofs.Lent.{Single}
+use Rattle.rules.specs.declared.Module.{Module}
+use Rattle.card.specs.declared.calls.Numbered.{Numbered}
+use Rattle.card.proofs.calls.Numbered as D
+use Rattle.card.proofs.calls.Numbered.Laws as D′
+use Rattle.card.proofs.Lent.{Single}
 use Rattle.card.proofs.Lending as Lending
 
 -- a word lies as one machine value
 abbrev pub word : {M : Type 1} (𝓤 : URA M) (H : Heap 𝓤) (A : Atoms 𝓤) → Given 𝓤 H A → Single 𝓤 H A (tyInt w16) u16
 word 𝓤 H A W = record { val = λ n. vint w16 n; tells = uint-tells w16; typed = λ n v i. uint-lawful 𝓤 H A W w16 .typed n (v ∷ []) i .0; makes = uint-makes 𝓤 H A W w16 }
 
-abbrev card : PlainProgrammed → PlainModule
+abbrev card : Numbered → Module
 card r = r .card
 
-abbrev number : PlainProgrammed → ℕ
+abbrev number : Numbered → ℕ
 number r = r .number
 
-module _ (Says : PlainModule → ℕ → PlainModule → ℕ → Type 0) {M : Type 1} (𝓤 : URA M) (H : Heap 𝓤) (A : Atoms 𝓤) where
+module _ (Says : Module → ℕ → Module → ℕ → Type 0) {M : Type 1} (𝓤 : URA M) (H : Heap 𝓤) (A : Atoms 𝓤) where
   abbrev pub Value : Contract 𝓤
   Value = Lending.Value (tyInt w16) (tyInt w16) (D.struct .name) u16 u16 D.the-row card number Says 𝓤 H A
 

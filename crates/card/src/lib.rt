@@ -1,25 +1,26 @@
-// The card's own loop: the calls on a module that a host keeps where it sits, exported for C and Rust. include/chimneyrye.h is their header.
+// The card's own loop: the calls on a module that a host keeps where it sits, exported for C and Rust. include/chimneyrye.h is their header. The module
+// is lent as the engine has it; each call is a call by value on what lies there, and stores what that call gives back.
 
 mod calls;
 
+use crate::calls::changed;
 use crate::calls::grouped;
 use crate::calls::limited;
 use crate::calls::nudged;
 use crate::calls::powered;
 use crate::calls::set_up;
-use crate::calls::stepped;
-use plain::PlainModule;
 use rules::Answer;
+use rules::Module;
 use rules::Sample;
 ghost use mathlib.Core.Path.{_≡_};
+ghost use Rattle.rules.specs.declared.FileCycle.the-variants.{SetupCycle, GroupCycle, LimitCycle};
+ghost use Rattle.rules.specs.Cycle.{outcomeNumber};
 ghost use Rattle.rules.specs.Card as card;
-ghost use Rattle.plain.specs.Plain.{moduleOf};
-ghost use Rattle.card.specs.Answers.{answerNumber};
 
-// Power-up. Returns 0, or 3 for a number that is no module's; the place then holds an 8511's defaults.
+// Power-up. Returns 0, or 3 for a number that is no module's, and then the module stays as it was.
 #[no_mangle]
-pub extern "C" fn chimneyrye_power_up(m: &mut PlainModule, number: u16) -> u16
-    ensures { λ r. ⌜ (moduleOf (now (m .exit)) ≡ card.poweredUp number .card) × (r ≡ answerNumber (card.poweredUp number .outcome)) ⌝ }
+pub extern "C" fn chimneyrye_power_up(m: &mut Module, number: u16) -> u16
+    ensures { λ r. ⌜ (now (m .exit) ≡ card.poweredUp (now (m .entry)) number .card) × (r ≡ outcomeNumber (card.poweredUp (now (m .entry)) number .outcome)) ⌝ }
 {
     let r = powered(*m, number);
     *m = r.card;
@@ -28,8 +29,8 @@ pub extern "C" fn chimneyrye_power_up(m: &mut PlainModule, number: u16) -> u16
 
 // The setup cycle, on a lent M0 file.
 #[no_mangle]
-pub extern "C" fn chimneyrye_setup(m: &mut PlainModule, file: &mut [u16]) -> u16
-    ensures { λ r. ⌜ (moduleOf (now (m .exit)) ≡ (card.setupCall (moduleOf (now (m .entry))) (now (file .entry))) .card) × (r ≡ answerNumber ((card.setupCall (moduleOf (now (m .entry))) (now (file .entry))) .outcome)) × (now (file .exit) ≡ card.setupFileAfter (moduleOf (now (m .entry))) (now (file .entry))) ⌝ }
+pub extern "C" fn chimneyrye_setup(m: &mut Module, file: &mut [u16]) -> u16
+    ensures { λ r. ⌜ (now (m .exit) ≡ (card.fileCall SetupCycle (now (m .entry)) (now (file .entry))) .card) × (r ≡ outcomeNumber ((card.fileCall SetupCycle (now (m .entry)) (now (file .entry))) .outcome)) × (now (file .exit) ≡ card.fileLeft SetupCycle (now (m .entry)) (now (file .entry))) ⌝ }
 {
     let r = set_up(*m, file);
     *m = r.card;
@@ -38,8 +39,8 @@ pub extern "C" fn chimneyrye_setup(m: &mut PlainModule, file: &mut [u16]) -> u16
 
 // The group cycle, on a lent M0 file.
 #[no_mangle]
-pub extern "C" fn chimneyrye_group(m: &mut PlainModule, file: &mut [u16]) -> u16
-    ensures { λ r. ⌜ (moduleOf (now (m .exit)) ≡ (card.groupCall (moduleOf (now (m .entry))) (now (file .entry))) .card) × (r ≡ answerNumber ((card.groupCall (moduleOf (now (m .entry))) (now (file .entry))) .outcome)) × (now (file .exit) ≡ card.groupFileAfter (moduleOf (now (m .entry))) (now (file .entry))) ⌝ }
+pub extern "C" fn chimneyrye_group(m: &mut Module, file: &mut [u16]) -> u16
+    ensures { λ r. ⌜ (now (m .exit) ≡ (card.fileCall GroupCycle (now (m .entry)) (now (file .entry))) .card) × (r ≡ outcomeNumber ((card.fileCall GroupCycle (now (m .entry)) (now (file .entry))) .outcome)) × (now (file .exit) ≡ card.fileLeft GroupCycle (now (m .entry)) (now (file .entry))) ⌝ }
 {
     let r = grouped(*m, file);
     *m = r.card;
@@ -48,8 +49,8 @@ pub extern "C" fn chimneyrye_group(m: &mut PlainModule, file: &mut [u16]) -> u16
 
 // The limit cycle, on a lent M1 file.
 #[no_mangle]
-pub extern "C" fn chimneyrye_limit(m: &mut PlainModule, file: &mut [u16]) -> u16
-    ensures { λ r. ⌜ (moduleOf (now (m .exit)) ≡ (card.limitCall (moduleOf (now (m .entry))) (now (file .entry))) .card) × (r ≡ answerNumber ((card.limitCall (moduleOf (now (m .entry))) (now (file .entry))) .outcome)) × (now (file .exit) ≡ card.limitFileAfter (moduleOf (now (m .entry))) (now (file .entry))) ⌝ }
+pub extern "C" fn chimneyrye_limit(m: &mut Module, file: &mut [u16]) -> u16
+    ensures { λ r. ⌜ (now (m .exit) ≡ (card.fileCall LimitCycle (now (m .entry)) (now (file .entry))) .card) × (r ≡ outcomeNumber ((card.fileCall LimitCycle (now (m .entry)) (now (file .entry))) .outcome)) × (now (file .exit) ≡ card.fileLeft LimitCycle (now (m .entry)) (now (file .entry))) ⌝ }
 {
     let r = limited(*m, file);
     *m = r.card;
@@ -58,20 +59,22 @@ pub extern "C" fn chimneyrye_limit(m: &mut PlainModule, file: &mut [u16]) -> u16
 
 // The nudge cycle.
 #[no_mangle]
-pub extern "C" fn chimneyrye_nudge(m: &mut PlainModule, word: u16) -> u16
-    ensures { λ r. ⌜ (moduleOf (now (m .exit)) ≡ (card.nudgeCall (moduleOf (now (m .entry))) word) .card) × (r ≡ answerNumber ((card.nudgeCall (moduleOf (now (m .entry))) word) .outcome)) ⌝ }
+pub extern "C" fn chimneyrye_nudge(m: &mut Module, word: u16) -> u16
+    ensures { λ r. ⌜ (now (m .exit) ≡ (card.nudgeCall (now (m .entry)) word) .card) × (r ≡ outcomeNumber ((card.nudgeCall (now (m .entry)) word) .outcome)) ⌝ }
 {
     let r = nudged(*m, word);
     *m = r.card;
     r.number
 }
 
-// One step, on the module where it sits.
+// One step, on the module where it sits. What a step does not change is not stored: stored whole, the module would be copied several times in every step.
 #[no_mangle]
-pub extern "C" fn chimneyrye_step(m: &mut PlainModule, s: Sample) -> Answer
-    ensures { λ r. ⌜ (moduleOf (now (m .exit)) ≡ (card.stepCall (moduleOf (now (m .entry))) s) .card) × (r ≡ (card.stepCall (moduleOf (now (m .entry))) s) .answer) ⌝ }
+pub extern "C" fn chimneyrye_step(m: &mut Module, s: Sample) -> Answer
+    ensures { λ r. ⌜ (now (m .exit) ≡ (card.stepCall (now (m .entry)) s) .card) × (r ≡ (card.stepCall (now (m .entry)) s) .answer) ⌝ }
 {
-    let r = stepped(*m, s);
-    *m = r.card;
-    r.answer
+    let c = changed(*m, s);
+    m.state = c.state;
+    m.configuration.raw = c.raw;
+    m.configuration.fault = c.fault;
+    c.answer
 }

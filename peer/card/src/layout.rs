@@ -49,17 +49,18 @@ plain_structs! {
     }
     struct Last { stepped: bool, at: u16, }
     struct Window { steps: u16, sum: u32, }
-    struct Travel { negative: bool, counts: u32, }
-    struct Speed { last: Last, shortwindow: Window, longwindow: Window, travel: Travel, rpm: u32, }
+    struct Movement { negative: bool, counts: u32, }
+    struct Speed { last: Last, shortwindow: Window, longwindow: Window, c: Movement, rpm: u32, }
     struct GroupState {
         level: bool, first: bool, held: bool, shift: u16,
         taken: bool, begun: bool, qualified: bool, opened: bool,
     }
     struct TimedState { held: bool, left: u32, }
-    struct State {
-        speed: Speed, groups: [GroupState; 6], positions: [u16; 6],
-        timed: [TimedState; 32], position: u16, virtuals: u16,
+    struct SinceStart {
+        speed: Speed, groups: [GroupState; 6], positions: [u16; 6], timed: [TimedState; 32],
     }
+    struct Kept { position: u16, virtuals: u16, }
+    struct State { since: SinceStart, kept: Kept, }
     struct Module { configuration: Configuration, state: State, }
     struct Sample {
         raw: u16, currents: u16, virtuals: u16, inputson: u16, inputsoff: u16,

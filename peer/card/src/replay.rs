@@ -56,11 +56,10 @@ impl Card<'_> {
         }
     }
 
-    /// A refused power-up leaves the module of before, so it is tried beside it.
+    /// A refused power-up leaves the module of before.
     fn power_up(&mut self, number: u16, output: &mut impl Write) -> io::Result<()> {
-        let answer = Module::default().power_up(number);
+        let answer = self.module.power_up(number);
         if answer == 0 {
-            self.module.power_up(number);
             self.powered = true;
         }
         writeln!(output, "power {answer}")

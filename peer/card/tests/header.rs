@@ -5,9 +5,9 @@ use std::path::{Path, PathBuf};
 use std::process::Command;
 
 use card_loop::layout::{
-    Acknowledges, Advance, Answer, Configuration, Detector, Errors, Group, GroupState, Last, Limit,
-    Module, Pair, Programming, Sample, Scalars, Setup, Speed, State, Switch, TimedState, Travel,
-    Window,
+    Acknowledges, Advance, Answer, Configuration, Detector, Errors, Group, GroupState, Kept, Last,
+    Limit, Module, Movement, Pair, Programming, Sample, Scalars, Setup, SinceStart, Speed, State,
+    Switch, TimedState, Window,
 };
 
 /// A C program of this folder, compiled with the header and the archive, and
@@ -47,10 +47,12 @@ fn c_lays_the_structs_out_as_rust_does() {
         ("configuration", Configuration::places()),
         ("last", Last::places()),
         ("window", Window::places()),
-        ("travel", Travel::places()),
+        ("movement", Movement::places()),
         ("speed", Speed::places()),
         ("group_state", GroupState::places()),
         ("timed_state", TimedState::places()),
+        ("since_start", SinceStart::places()),
+        ("kept", Kept::places()),
         ("state", State::places()),
         ("module", Module::places()),
         ("sample", Sample::places()),

@@ -108,6 +108,61 @@ fn any_numbers_in_the_module_are_harmless() {
     assert_eq!((place.before, place.after), (GUARD, GUARD));
 }
 
+/// A card whose output 1 is on at raw position 10: group 1 in Mode 0, one real
+/// output, a normal switch at 0/1000.
+fn lit_card() -> Module {
+    let mut card = Module::default();
+    let mut m0 = [0; 120];
+    let mut m1 = [0; 650];
+    m0[..10].copy_from_slice(&[0x8001, 1024, 0, 0, 0, 0, 0, 0, 1, 1]);
+    m0[20] = 0x8000;
+    m0[22] = 0x8001;
+    m1[0] = 0x8000;
+    m1[6] = 1000;
+    assert_eq!(card.power_up(8513), 0);
+    assert_eq!(card.cycle(FileCycle::Setup, &mut m0), 0);
+    assert_eq!(card.cycle(FileCycle::Group, &mut m0), 0);
+    assert_eq!(card.cycle(FileCycle::Limit, &mut m1), 0);
+    card
+}
+
+fn real_outputs(card: &mut Module) -> u16 {
+    card.step(replay::sample_of([10, 0, 0, 0, 0, 0, 0, 0, 0]))
+        .real
+}
+
+/// 01: 3 "gives no module", and nothing changes.
+#[test]
+fn a_refused_power_up_leaves_a_running_module_as_it_was() {
+    let mut card = lit_card();
+    assert_eq!(real_outputs(&mut card), 1);
+    let before = card;
+    for number in [0, 1, 8510, 8514, 65535] {
+        assert_eq!(card.power_up(number), 3);
+        assert_eq!(card, before);
+    }
+    assert_eq!(real_outputs(&mut card), 1);
+}
+
+/// A number that the rules do not name lights nothing.
+#[test]
+fn a_number_that_no_rule_names_lights_nothing() {
+    let edits: [fn(&mut Module); 6] = [
+        |m| m.configuration.model = 8514,
+        |m| m.configuration.programming.groups[0].mode = 6,
+        |m| m.configuration.programming.limits[0].action.kind = 4,
+        |m| m.configuration.programming.limits[0].detector = 3,
+        |m| m.configuration.programming.owners[0] = 7,
+        |m| m.configuration.programming.owners[0] = 65535,
+    ];
+    for edit in edits {
+        let mut card = lit_card();
+        edit(&mut card);
+        assert_eq!(real_outputs(&mut card), 0);
+    }
+    assert_eq!(real_outputs(&mut lit_card()), 1);
+}
+
 /// The programming of docs/BENCH.md, case a, read in the module field by field:
 /// the archive lays the structs out as they are declared.
 #[test]
@@ -197,9 +252,10 @@ fn the_programming_is_read_where_it_lies() {
     assert_eq!(g.programming.limits[31], limit);
 
     let answer = card.step(replay::sample_of([512, 0, 0, 0, 0, 0, 0, 0xa5a5, 0]));
-    let x = &card.state;
-    assert_eq!((answer.position, x.position), (510, 510));
-    assert_eq!((answer.virtuals, x.virtuals), (0xa5a5, 0xa5a5));
+    let kept = &card.state.kept;
+    let x = &card.state.since;
+    assert_eq!((answer.position, kept.position), (510, 510));
+    assert_eq!((answer.virtuals, kept.virtuals), (0xa5a5, 0xa5a5));
     assert_eq!((answer.changed, card.configuration.raw), (8, 512));
     assert_eq!(
         x.speed.last,

@@ -5,10 +5,10 @@ use Prim.Native.Nat.{ℕ}
 use contract.Running.{givenOf, tables, tablesOf}
 use denote.Triple.Spec.{tripleOf}
 use denote.Triple.Table.{entered, cited}
-use Rattle.rules.specs.Card.{groupCall, groupFileAfter}
-use Rattle.plain.specs.declared.PlainModule.{PlainModule}
-use Rattle.plain.specs.Plain.{moduleOf}
-use Rattle.card.specs.Answers.{answerNumber}
+use Rattle.rules.specs.declared.FileCycle.the-variants.{GroupCycle}
+use Rattle.rules.specs.Card.{fileCall, fileLeft}
+use Rattle.rules.specs.declared.Module.{Module}
+use Rattle.rules.specs.Cycle.{outcomeNumber}
 use Rattle.card.proofs.File.{Value, meets}
 use Rattle.card.proofs.calls.grouped.Symbol as by-value
 use Rattle.card.proofs.calls.grouped.Met as by-value-met
@@ -17,9 +17,9 @@ use Rattle.card.proofs.chimneyrye_group as here
 use Rattle.card.proofs.chimneyrye_group.Statement.{statement}
 use Rattle.card.proofs.chimneyrye_group.Code as code
 
-abbrev Says : PlainModule → List ℕ → PlainModule → ℕ → List ℕ → Type 0
+abbrev Says : Module → List ℕ → Module → ℕ → List ℕ → Type 0
 Says h file m r after =
-    (moduleOf m ≡ groupCall (moduleOf h) file .card) × (r ≡ answerNumber (groupCall (moduleOf h) file .outcome)) × (after ≡ groupFileAfter (moduleOf h) file)
+    (m ≡ fileCall GroupCycle h file .card) × (r ≡ outcomeNumber (fileCall GroupCycle h file .outcome)) × (after ≡ fileLeft GroupCycle h file)
 
 pub chimneyrye-group-spec : {M : Type 1} → statement M
 unfolding code.routine tablesOf

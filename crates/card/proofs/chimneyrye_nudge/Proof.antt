@@ -5,9 +5,8 @@ use contract.Running.{givenOf, tables, tablesOf}
 use denote.Triple.Spec.{tripleOf}
 use denote.Triple.Table.{entered, cited}
 use Rattle.rules.specs.Card.{nudgeCall}
-use Rattle.plain.specs.declared.PlainModule.{PlainModule}
-use Rattle.plain.specs.Plain.{moduleOf}
-use Rattle.card.specs.Answers.{answerNumber}
+use Rattle.rules.specs.declared.Module.{Module}
+use Rattle.rules.specs.Cycle.{outcomeNumber}
 use Rattle.card.proofs.Word.{Value, meets}
 use Rattle.card.proofs.calls.nudged.Symbol as by-value
 use Rattle.card.proofs.calls.nudged.Met as by-value-met
@@ -16,8 +15,8 @@ use Rattle.card.proofs.chimneyrye_nudge as here
 use Rattle.card.proofs.chimneyrye_nudge.Statement.{statement}
 use Rattle.card.proofs.chimneyrye_nudge.Code as code
 
-abbrev Says : PlainModule → ℕ → PlainModule → ℕ → Type 0
-Says h s m r = (moduleOf m ≡ nudgeCall (moduleOf h) s .card) × (r ≡ answerNumber (nudgeCall (moduleOf h) s .outcome))
+abbrev Says : Module → ℕ → Module → ℕ → Type 0
+Says h s m r = (m ≡ nudgeCall h s .card) × (r ≡ outcomeNumber (nudgeCall h s .outcome))
 
 pub chimneyrye-nudge-spec : {M : Type 1} → statement M
 unfolding code.routine tablesOf

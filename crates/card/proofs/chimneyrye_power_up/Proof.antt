@@ -5,9 +5,8 @@ use contract.Running.{givenOf, tables, tablesOf}
 use denote.Triple.Spec.{tripleOf}
 use denote.Triple.Table.{entered, cited}
 use Rattle.rules.specs.Card.{poweredUp}
-use Rattle.plain.specs.declared.PlainModule.{PlainModule}
-use Rattle.plain.specs.Plain.{moduleOf}
-use Rattle.card.specs.Answers.{answerNumber}
+use Rattle.rules.specs.declared.Module.{Module}
+use Rattle.rules.specs.Cycle.{outcomeNumber}
 use Rattle.card.proofs.Word.{Value, meets}
 use Rattle.card.proofs.calls.powered.Symbol as by-value
 use Rattle.card.proofs.calls.powered.Met as by-value-met
@@ -16,8 +15,8 @@ use Rattle.card.proofs.chimneyrye_power_up as here
 use Rattle.card.proofs.chimneyrye_power_up.Statement.{statement}
 use Rattle.card.proofs.chimneyrye_power_up.Code as code
 
-abbrev Says : PlainModule → ℕ → PlainModule → ℕ → Type 0
-Says h s m r = (moduleOf m ≡ poweredUp s .card) × (r ≡ answerNumber (poweredUp s .outcome))
+abbrev Says : Module → ℕ → Module → ℕ → Type 0
+Says h s m r = (m ≡ poweredUp h s .card) × (r ≡ outcomeNumber (poweredUp h s .outcome))
 
 pub chimneyrye-power-up-spec : {M : Type 1} → statement M
 unfolding code.routine tablesOf

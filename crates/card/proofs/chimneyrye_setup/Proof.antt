@@ -5,10 +5,10 @@ use Prim.Native.Nat.{ℕ}
 use contract.Running.{givenOf, tables, tablesOf}
 use denote.Triple.Spec.{tripleOf}
 use denote.Triple.Table.{entered, cited}
-use Rattle.rules.specs.Card.{setupCall, setupFileAfter}
-use Rattle.plain.specs.declared.PlainModule.{PlainModule}
-use Rattle.plain.specs.Plain.{moduleOf}
-use Rattle.card.specs.Answers.{answerNumber}
+use Rattle.rules.specs.declared.FileCycle.the-variants.{SetupCycle}
+use Rattle.rules.specs.Card.{fileCall, fileLeft}
+use Rattle.rules.specs.declared.Module.{Module}
+use Rattle.rules.specs.Cycle.{outcomeNumber}
 use Rattle.card.proofs.File.{Value, meets}
 use Rattle.card.proofs.calls.set_up.Symbol as by-value
 use Rattle.card.proofs.calls.set_up.Met as by-value-met
@@ -17,9 +17,9 @@ use Rattle.card.proofs.chimneyrye_setup as here
 use Rattle.card.proofs.chimneyrye_setup.Statement.{statement}
 use Rattle.card.proofs.chimneyrye_setup.Code as code
 
-abbrev Says : PlainModule → List ℕ → PlainModule → ℕ → List ℕ → Type 0
+abbrev Says : Module → List ℕ → Module → ℕ → List ℕ → Type 0
 Says h file m r after =
-    (moduleOf m ≡ setupCall (moduleOf h) file .card) × (r ≡ answerNumber (setupCall (moduleOf h) file .outcome)) × (after ≡ setupFileAfter (moduleOf h) file)
+    (m ≡ fileCall SetupCycle h file .card) × (r ≡ outcomeNumber (fileCall SetupCycle h file .outcome)) × (after ≡ fileLeft SetupCycle h file)
 
 pub chimneyrye-setup-spec : {M : Type 1} → statement M
 unfolding code.routine tablesOf

@@ -2,9 +2,6 @@
 use Rattle.card.proofs.calls.nudged.Statement.{statement}
 use Rattle.card.proofs.calls.nudged.Tie as tie
 
-module-of-requires : tie.Need-module-of-requires
-module-of-requires c κs = tt
-
 nudge-cycle-requires : tie.Need-nudge-cycle-requires
 nudge-cycle-requires c κs = tt
 
@@ -12,8 +9,7 @@ answered-requires : tie.Need-answered-requires
 answered-requires c κs = tt
 
 returns : tie.Need-returns
-returns c = rw (c .before .nudge-cycle .ensures, c .before .before .module-of .ensures) at (c .answered .ensures)
+returns c = rw (c .before .nudge-cycle .ensures) at (c .answered .ensures)
 
 pub nudged-spec : {M : Type 1} → statement M
-nudged-spec =
-    tie.close (tie.spec module-of-requires nudge-cycle-requires answered-requires returns)
+nudged-spec = tie.close (tie.spec nudge-cycle-requires answered-requires returns)

@@ -3,11 +3,8 @@ use borrow.Author.Needs.{needs}
 use Rattle.card.proofs.calls.set_up.Statement.{statement}
 use Rattle.card.proofs.calls.set_up.Tie as tie
 
-module-of-requires : tie.Need-module-of-requires
-module-of-requires c κs = tt
-
-setup-cycle-requires : tie.Need-setup-cycle-requires
-setup-cycle-requires c κs = tt
+file-cycle-requires : tie.Need-file-cycle-requires
+file-cycle-requires c κs = tt
 
 answered-requires : tie.Need-answered-requires
 answered-requires c κs = tt
@@ -17,10 +14,8 @@ same-length c = search needs
 
 returns : tie.Need-returns
 returns c =
-    let e = rw (c .before .before .before .setup-cycle .ensures .0, c .before .before .before .before .before .module-of .ensures) at (c .answered .ensures) in
-    (e .0, e .1, rw (c .before .before .before .before .before .module-of .ensures) at (c .before .before .before .setup-cycle .ensures .1))
+    let e = rw (c .before .before .before .file-cycle .ensures .0) at (c .answered .ensures) in
+    (e .0, e .1, c .before .before .before .file-cycle .ensures .1)
 
 pub set-up-spec : {M : Type 1} → statement M
-set-up-spec =
-    tie.close
-    (tie.spec module-of-requires setup-cycle-requires answered-requires same-length returns)
+set-up-spec = tie.close (tie.spec file-cycle-requires answered-requires same-length returns)

@@ -1,4 +1,7 @@
 // The two cases of docs/BENCH.md: what a module is programmed with, and the module so programmed.
+use file_cycle::file_cycle;
+use rules::FileCycle;
+use rules::Model;
 use rules::Module;
 ghost use mathlib.Core.Path.{_≡_};
 ghost use lib.ListN.{length};
@@ -168,12 +171,12 @@ fn m1_file(full: bool) -> [u16; 650]
 pub fn module_of(c: Case) -> Module {
     let mut m0 = m0_file(c);
     let mut m1 = m1_file(c.full);
-    let p = Module::power_up(c.number);
+    let p = Module::power_up(Module::fresh(Model::NoModule), c.number);
     let fresh = p.card;
-    let q = setup::setup_cycle(fresh, &mut m0);
+    let q = file_cycle(FileCycle::SetupCycle, fresh, &mut m0);
     let with_setup = q.card;
-    let r = groups::group_cycle(with_setup, &mut m0);
+    let r = file_cycle(FileCycle::GroupCycle, with_setup, &mut m0);
     let with_groups = r.card;
-    let s = limits::limit_cycle(with_groups, &mut m1);
+    let s = file_cycle(FileCycle::LimitCycle, with_groups, &mut m1);
     s.card
 }

@@ -3,7 +3,6 @@ mod answer;
 mod frames;
 mod input;
 
-use crate::answer::FileCycle;
 use crate::answer::cycle_line;
 use crate::answer::file_line;
 use crate::answer::put_outcome;
@@ -16,10 +15,12 @@ use crate::input::kept;
 use crate::input::read_file;
 use crate::input::read_word;
 use crate::input::sample_of;
+use file_cycle::file_cycle;
+use rules::FileCycle;
+use rules::Model;
 use rules::Module;
-use rules::Outcome;
-use rules::Programmed;
 use rules::Sample;
+use rules::numbers::is_accepted;
 use text::put_decimal;
 use text::put_text;
 use text::show;
@@ -51,46 +52,26 @@ fn none(r: Replay) -> Replay {
     r
 }
 
-// The module of before stays where a power-up is refused.
-fn powered(r: Replay, p: Programmed) -> Replay {
-    let o = p.outcome;
-    match o {
-        Outcome::Accepted => {
-            let card = p.card;
-            Replay {
-                card: card,
-                powered: true,
-                more: true,
-            }
-        }
-        Outcome::Idle => r,
-        Outcome::Refused(_) => r,
-    }
-}
-
 fn power_call(r: Replay) -> Replay {
     let number = read_word();
     let Input::Word(n) = number else {
         return bad(r);
     };
-    let p = Module::power_up(n);
+    let card = r.card;
+    let p = Module::power_up(card, n);
     let o = p.outcome;
+    let after = p.card;
     show(put_outcome(put_text(text::empty(), b"power "), o));
-    powered(r, p)
-}
-
-// A cycle that takes a file.
-fn acted(kind: FileCycle, m: Module, file: &mut [u16]) -> Programmed {
-    match kind {
-        FileCycle::OfSetup => setup::setup_cycle(m, file),
-        FileCycle::OfGroups => groups::group_cycle(m, file),
-        FileCycle::OfLimits => limits::limit_cycle(m, file),
+    Replay {
+        card: after,
+        powered: r.powered | is_accepted(o),
+        more: r.more,
     }
 }
 
 // The cycle on a file, and its line.
 fn answered(kind: FileCycle, m: Module, file: &mut [u16]) -> Module {
-    let p = acted(kind, m, file);
+    let p = file_cycle(kind, m, file);
     show(file_line(kind, p, &file[..]));
     p.card
 }
@@ -211,9 +192,9 @@ fn frame_call(r: Replay, writes: bool) -> Replay {
 fn call(r: Replay, opcode: u16) -> Replay {
     match opcode {
         0 => power_call(r),
-        1 => file_call(r, FileCycle::OfSetup),
-        2 => file_call(r, FileCycle::OfGroups),
-        3 => file_call(r, FileCycle::OfLimits),
+        1 => file_call(r, FileCycle::SetupCycle),
+        2 => file_call(r, FileCycle::GroupCycle),
+        3 => file_call(r, FileCycle::LimitCycle),
         4 => nudge_call(r),
         5 => step_call(r),
         6 => block_call(r),
@@ -247,10 +228,8 @@ fn run(r: Replay) {
 }
 
 fn main() {
-    let p = Module::power_up(8511);
-    let card = p.card;
     run(Replay {
-        card: card,
+        card: Module::fresh(Model::NoModule),
         powered: false,
         more: true,
     });

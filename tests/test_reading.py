@@ -41,7 +41,8 @@ class Names(unittest.TestCase):
     def test_the_statements_name_theorems(self):
         names = named(section("The ten statements that matter"))
         self.assertIn("every-output", names)
-        self.assert_declared(names, all_of("crates/rules/proofs/*.antt") + all_of("crates/trace/proofs/*.antt") + all_of("crates/trace/src/*.rt"))
+        code = "".join(all_of("crates/%s/src/*.rt" % crate) for crate in ["engine", "card", "trace"])
+        self.assert_declared(names, all_of("crates/rules/proofs/*.antt") + all_of("crates/trace/proofs/*.antt") + code)
 
     def test_each_call_names_its_function_and_its_edits(self):
         edits = {os.path.splitext(os.path.basename(path))[0] for path in glob.glob(os.path.join(ROOT, "crates/*/must-fail/*.edit"))}

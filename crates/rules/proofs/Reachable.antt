@@ -1,21 +1,23 @@
--- Every module that a card can hold: for each list of calls from power-up no sum or count of the state machine runs over, and setpoints, offsets, presets
--- and shifts are below SF. So what Card says of other modules (a sum modulo 2^32) no card meets. Assumes nothing.
-use Prim.Native.Nat.{ℕ, _+_, _-_, _^_, _≤_, _<_}
+-- Every module that a card can hold: for each list of calls from power-up no sum or count of the state machine runs over, setpoints, offsets, presets and
+-- shifts are below SF, and what the checks bound is within its bounds. So what Card says of other modules (a sum modulo 2^32) no card meets. Assumes nothing.
+use Prim.Native.Nat.{ℕ, _+_, _-_, _*_, _^_, _≤_, _<_}
 use mathlib.Core.Path.{_≡_}
 use mathlib.Core.Bool.{Bool, true, false, cond}
 use mathlib.Core.List.{List}
-use native.Mathlib.Nat.{mod-eq-of-lt}
+use native.Mathlib.Nat.{mod-eq-of-lt, mul-le-mul-right}
 use native.Mathlib.Omega.{arith}
 use lib.Dec.{lit<, lit≤}
 use Rattle.rules.specs.declared.Model.{Model}
-use Rattle.rules.specs.declared.Switch.the-variants.{Timed}
+use Rattle.rules.specs.declared.Switch.{Switch}
+use Rattle.rules.specs.declared.Switch.the-variants.{Pulse, Timed}
 use Rattle.rules.specs.declared.Programming.{Programming}
 use Rattle.rules.specs.declared.Window.{Window}
 use Rattle.rules.specs.declared.SinceStart.{SinceStart}
 use Rattle.rules.specs.declared.Module.{Module}
 use Rattle.rules.specs.Motion.{scaleFactor, windowSteps, shortSteps}
 use Rattle.rules.specs.Variants.{limitSwitch}
-use Rattle.rules.specs.Switches.{timedSteps, limitOf}
+use Rattle.rules.specs.Counts.{ahead, usedPair}
+use Rattle.rules.specs.Switches.{onSetpoint, offSetpoint, timedSteps, limitOf}
 use Rattle.rules.specs.Calls.{Call}
 use Rattle.rules.specs.Card.{biasedMovement, windowSum, groupStateAt, timedAt}
 use Rattle.rules.specs.Run.{run}
@@ -23,7 +25,7 @@ use Rattle.rules.specs.History.{configurationOf, sinceModuleStart, since
 use Rattle.rules.proofs.GroupPast.{shift-below}
 use Rattle.rules.proofs.Timed.{passedOf}
 use Rattle.rules.proofs.Windows.{steps-below, sum-fits, biased-below, long-some, long-small}
-use Rattle.rules.proofs.Ranges.{Within, ranges}
+use Rattle.rules.proofs.Ranges.{SwitchWithin, Within, ranges}
 use Rattle.rules.proofs.Agreement.{configuration-is, agrees}
 
 -- a window of so many steps: its count is below them, and its sum with a movement more, whatever q comes, fits 32 bits
@@ -76,3 +78,36 @@ reachable model l = record {
   programming = rw (configuration-is model l) (ranges model l);
   state = rw (configuration-is model l) (state-within model l);
 }
+
+-- ---- The switches of a reachable module, by output from 0
+
+-- R of a switch: (off − on) mod SF of its first pair, unmoved
+abbrev pub lengthOf : Programming → ℕ → ℕ
+lengthOf p n = ahead (scaleFactor (p .setup)) (onSetpoint (limitOf p n) 0) (offSetpoint (limitOf p n) 0)
+
+-- its first pair is used; "0/0 is unused"
+abbrev pub firstUsed : Programming → ℕ → Bool
+firstUsed p n = usedPair (onSetpoint (limitOf p n) 0) (offSetpoint (limitOf p n) 0)
+
+module _ (model : Model) (l : List Call) (n : ℕ) where
+  abbrev p : Programming
+  p = run model l .configuration .programming
+
+  first : (s : Switch) → limitSwitch (limitOf p n) ≡ s → SwitchWithin (scaleFactor (p .setup)) s (onSetpoint (limitOf p n) 0) (offSetpoint (limitOf p n) 0)
+  first s e = rw e at (reachable model l .programming .limits n .switch)
+
+  -- "Q pulses of K counts, both at least 1", and R ≥ Q × K + Q − 1
+  pub used-pulse : (q k : ℕ) → limitSwitch (limitOf p n) ≡ Pulse q k → firstUsed p n ≡ true → (1 ≤ q) × (1 ≤ k) × (q * k + q - 1 ≤ lengthOf p n)
+  used-pulse q k e u = first (Pulse q k) e u
+
+  -- so R − K and Q − 1 of "floor(j × (R − K) / (Q − 1))" are the plain differences
+  pub plain-pulse : (q k : ℕ) → limitSwitch (limitOf p n) ≡ Pulse q k → firstUsed p n ≡ true → (k ≤ lengthOf p n) × (1 ≤ q)
+  plain-pulse q k e u =
+      let f = used-pulse q k e u in
+      let a = f .0 in
+      let b = f .2 in
+      (omega (arith, mul-le-mul-right {m = 1} {n = q} k a), a)
+
+  -- "T in ms, 1 to 9999"
+  pub used-timed : (t : ℕ) → limitSwitch (limitOf p n) ≡ Timed t → firstUsed p n ≡ true → (1 ≤ t) × (t ≤ 9999)
+  used-timed t e u = first (Timed t) e u

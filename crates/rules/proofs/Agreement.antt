@@ -135,7 +135,7 @@ module _ (model : Model) (l : List Call) (x : SinceStart) (k : Agrees (programmi
     position-in =
         rw (position-is (p .setup .top) (groupAt p n) (groupStateAt x n) (groupEvent (conditionsIn model l s) (groupAt p n) n) (pastOf (sinceGroupStart model l n)) (k .groups n b) (event-below n))
 
-    open-in : openNow (conditionsIn model l s) (groupAt p n) (groupStateAt x n) n ≡ openIn model l s n
+    pub open-in : openNow (conditionsIn model l s) (groupAt p n) (groupStateAt x n) n ≡ openIn model l s n
     unfolding openNow openIn groupNow groupAfter groupPast groupStepIn pastOf conditionsIn conditions
     open-in =
         open-is (p .setup .top) (groupAt p n) (groupStateAt x n) (groupEvent (conditionsIn model l s) (groupAt p n) n) (pastOf (sinceGroupStart model l n)) (k .groups n b) (event-below n)

@@ -15,5 +15,6 @@ pub mod Cases
 pub mod Reading
 pub mod Refusals
 pub mod Reachable
+pub mod Sentences
 pub mod Reports
 pub mod Runs

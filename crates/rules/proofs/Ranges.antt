@@ -132,6 +132,7 @@ pub record GroupWithin (sf : ℕ) (g : Group) : Type 0 where
   pub off : g .dwell .off < sf
   pub offset : g .offset < sf
   pub mode : g .mode ≤ 5
+  pub unused : g .used ≡ false → g .mode ≡ 0
 
 -- of a switch whose first pair is (on, off), where that pair is used: of a pulse "Q pulses of K counts, both at least 1" that its length takes, R ≥ Q × K + Q − 1;
 -- of a timed one "T in ms, 1 to 9999"
@@ -164,7 +165,7 @@ good-pair sf on off e =
     (leb-false sf on (b .0), leb-false sf off (b .1))
 
 no-group : (sf : ℕ) → 0 < sf → GroupWithin sf noGroup
-no-group sf s = record { on = s; off = s; offset = s; mode = lit≤ tt }
+no-group sf s = record { on = s; off = s; offset = s; mode = lit≤ tt; unused = λ _. refl }
 
 no-limit : (sf : ℕ) → 0 < sf → LimitWithin sf noLimit
 unfolding switchOf
@@ -299,7 +300,7 @@ block-group model sf file n s e =
     let a = no-bits (leb sf (groupWord file n 3)) (groupProgramBad model file n ∷ pair ∷ []) (rw t at e) in
     let b = no-bits (groupProgramBad model file n) (pair ∷ []) (a .1) in
     let d = good-pair sf (groupWord file n 1) (groupWord file n 2) (no-bits pair [] (b .1) .0) in
-    rw t (record { on = d .0; off = d .1; offset = leb-false sf (groupWord file n 3) (a .0); mode = program-mode model file n (b .0) }))
+    rw t (record { on = d .0; off = d .1; offset = leb-false sf (groupWord file n 3) (a .0); mode = program-mode model file n (b .0); unused = λ f. absurd (true≢false f) }))
     (λ t. rw t (no-group sf s))
 
 -- an output is dealt to no group, or to one of those that are there

@@ -1,7 +1,7 @@
 -- How the history reads: for each quantifier the proposition that its test says, and 01's sentences on groups and timed switches as such propositions.
 -- `Moment j h`: j is the past h as it stood at one of its steps; of two moments the longer is the later. Assumes nothing.
 use Prim.Native.Nat.{ℕ, _+_, _%_, _<_}
-use mathlib.Core.Path.{_≡_, refl, subst}
+use mathlib.Core.Path.{_≡_, refl, subst, _∙_}
 use mathlib.Core.Logic.{_↔_}
 use mathlib.Core.Bool.{Bool, true, false, cond, not, _&&_, _||_}
 use mathlib.Core.List.{List, [], _∷_}
@@ -117,6 +117,21 @@ noneTaken-reads (x ∷ h) e =
     (λ t. absurd (Option·some-ne-none x (this (x .takes) (some x) (lastTaken h) none t e)))
     (λ t. all-of t (noneTaken-reads h (that (x .takes) (some x) (lastTaken h) none t e)))
 noneTaken-reads [] e = λ k r. absurd (none-of r)
+
+-- and the other way: such a step is what `lastTaken` finds, and with none it finds none
+same-taken : {j h : List PastStep} → Moment j h → ((k : List PastStep) → Moment k h → length j < length k → takesAt k ≡ false) → lastTaken h ≡ lastTaken j
+unfolding lastTaken takesAt
+same-taken now f = refl
+same-taken {j = j} (back {s = x} {h = h} r) f = let i = number r in rw (f (x ∷ h) now (omega arith)) (same-taken r (λ k m. f k (back m)))
+
+pub lastTaken-told : (h : List PastStep) (s : PastStep) → LastTaken s h → lastTaken h ≡ some s
+unfolding lastTaken
+lastTaken-told h s e = same-taken (e .1) (e .3) ∙ rw (e .2)
+
+pub noneTaken-told : (h : List PastStep) → ((k : List PastStep) → Moment k h → takesAt k ≡ false) → lastTaken h ≡ none
+unfolding lastTaken takesAt
+noneTaken-told [] f = refl
+noneTaken-told (x ∷ h) f = rw (f (x ∷ h) now) (noneTaken-told h (λ k r. f k (back r)))
 
 -- Modes 1 and 2: the preset in force at the last edge taken plus the travel from there, modulo SF; with no such edge the machine's
 pub preset-reads : (s : PastStep) (h : List PastStep) (taken : PastStep) → presets (groupMode (s .program)) ≡ true → lastTaken (s ∷ h) ≡ some taken

@@ -4,7 +4,8 @@ use mathlib.Core.Path.{_≡_, refl, ap, _∙_}
 use mathlib.Core.Bool.{Bool, true, false, cond, _&&_}
 use mathlib.Core.List.{List, [], _∷_}
 use native.Mathlib.Omega.{arith}
-use lib.Dec.{ltb}
+use lib.ListN.{length, getD, replicate}
+use lib.Dec.{ltb, eqb}
 use borrow.Author.Tests.{ltb-true, ltb-false}
 use Rattle.rules.specs.declared.Model.{Model}
 use Rattle.rules.specs.declared.Programming.{Programming}
@@ -12,15 +13,26 @@ use Rattle.rules.specs.declared.Configuration.{Configuration}
 use Rattle.rules.specs.declared.SinceStart.{SinceStart}
 use Rattle.rules.specs.declared.Module.{Module}
 use Rattle.rules.specs.declared.Sample.{Sample}
+use Rattle.rules.specs.declared.FileCycle.{FileCycle}
+use Rattle.rules.specs.declared.FileCycle.the-variants.{SetupCycle, GroupCycle, LimitCycle}
+use Rattle.rules.specs.declared.Cycle.{Cycle}
+use Rattle.rules.specs.declared.Cycle.the-variants.{OfFile, NudgeCycle}
+use Rattle.rules.specs.declared.Refusal.the-variants.{NudgeOutput, NudgeSetpoint}
+use Rattle.rules.specs.declared.Outcome.the-variants.{Idle}
+use Rattle.rules.specs.declared.Decision.{Decision}
 use Rattle.rules.specs.declared.Answer.{Answer}
 use Rattle.rules.specs.Words.{bit, wordOf, forced}
 use Rattle.rules.specs.Variants.{modelKnown, modelOf}
 use Rattle.rules.specs.Groups.{noPosition, ofGroup}
 use Rattle.rules.specs.Switches.{present, limitOf, ownerOf, ruleAt, forcedOff, forcedOn, outputOn, outputWords, answerOf}
-use Rattle.rules.specs.Calls.{Call, Step, FileCall, NudgeCall, sound}
-use Rattle.rules.specs.Card.{conditionsNow, ruleNow, outputsNow, freshModule, poweredUp, fileCall, nudgeCall, keptNow, stepState, stepAnswer, stepCall}
+use Rattle.rules.specs.Motion.{scaleFactor}
+use Rattle.rules.specs.Cycle.{isAccepted, numberOf, transmitBit, withAcknowledges, withAcknowledge, withFault, withRaw, stands, acts, underway, idleCycle, cycle, turnedAway, ignoredCycle, refusedCycle, acceptedCycle, judged}
+use Rattle.rules.specs.FileCycle.{fileLength, lengthRefusal, dataRefusal, barred, fileErrors, brought, command, clears, fileActs, fileCycle}
+use Rattle.rules.specs.Nudge.{nudgeClearBit, nudgeOutput, nudgePair, nudgeOutputBad, nudgeSetpointBad, nudgedProgramming, nudgeActs, nudgeCycle}
+use Rattle.rules.specs.Calls.{Call, Step, FileCall, NudgeCall, freshConfiguration, sound, stepConfiguration, configurationAfter}
+use Rattle.rules.specs.Card.{speedNow, conditionsNow, ruleNow, outputsNow, moduleStart, groupStart, limitStart, startOf, sinceAfter, freshModule, poweredUp, fileCall, nudgeCall, sinceNow, keptNow, stepState, stepAnswer, stepCall}
 use Rattle.rules.specs.Run.{moduleAfter, run, answers, outputBit, EachStep}
-use Rattle.rules.specs.History.{configurationOf, programmingOf, conditionsIn, positionsIn, opennessIn, lastsIn, ruleIn, outputsIn, lastPosition, previousVirtuals, expectedAnswer, expectedAnswers}
+use Rattle.rules.specs.History.{configurationOf, programmingOf, conditionsIn, positionsIn, opennessIn, lastsIn, ruleIn, outputsIn, lastPosition, previousVirtuals, expectedAnswer, expectedAnswers, isModuleStart, lastRaw, leftPositions, ignoredAfter, messageIgnored}
 use Rattle.rules.proofs.Packing.{packed-bit, packed-same}
 use Rattle.rules.proofs.Programs.{model-is}
 use Rattle.rules.proofs.OutputRule.{same-conditions, rule-alike}
@@ -38,7 +50,7 @@ module _ (model : Model) (l : List Call) (s : Sample) where
   abbrev x : SinceStart
   x = run model l .state .since
 
-  conditions-in : conditionsNow g x s ≡ conditionsIn model l s
+  pub conditions-in : conditionsNow g x s ≡ conditionsIn model l s
   conditions-in = conditions-are model l x (agrees model l) s
 
   rule-is : (n : ℕ) → n < 32 → ruleNow p (conditionsNow g x s) x n ≡ ruleIn model l s n
@@ -75,6 +87,132 @@ kept-is model [] = refl
 kept-is model (Step s ∷ l) = rw (configuration-is model l, outputs-are model l s, kept-is model l)
 kept-is model (FileCall kind file ∷ l) = kept-is model l
 kept-is model (NudgeCall w ∷ l) = kept-is model l
+
+-- ---- What a cycle reads and tells of the past
+
+-- what a cycle does to the last raw and to MsgIgn
+record Tells (g : Configuration) (r : Decision) : Type 0 where
+  raw : r .configuration .raw ≡ g .raw
+  ignored : r .configuration .ignored ≡ ignoredAfter (r .outcome) (g .ignored)
+
+cycle-tells : (kind : Cycle) (command : ℕ) (clear : Bool) (act : Configuration → Decision) (g : Configuration)
+    → Tells g (act (underway kind clear g)) → Tells g (cycle kind command clear act g)
+unfolding cycle idleCycle ignoredAfter
+cycle-tells kind command clear act g k = go (acts kind command g) (bit command transmitBit)
+  where
+    go : (a b : Bool)
+        → Tells g (cond a (act (underway kind clear g)) (record { configuration = cond b g (withAcknowledges g (withAcknowledge kind false (g .acknowledges))); outcome = Idle }))
+    go true b = k
+    go false true = record { raw = refl; ignored = refl }
+    go false false = record { raw = refl; ignored = refl }
+
+file-acts : (kind : FileCycle) (c : Cycle) (clear : Bool) (g : Configuration) (file : List ℕ) → Tells g (fileActs kind file (underway c clear g))
+unfolding fileActs judged ignoredCycle acceptedCycle refusedCycle underway ignoredAfter numberOf dataRefusal
+file-acts kind c clear g file = go kind (barred kind (underway c clear g)) (eqb (fileErrors kind (underway c clear g) file) 0) (brought kind (underway c clear g) file)
+  where
+    go : (kind : FileCycle) (a b : Bool) (p : Programming)
+        → Tells g (cond a (ignoredCycle (underway c clear g)) (cond b (acceptedCycle p (underway c clear g)) (refusedCycle (dataRefusal kind) (underway c clear g))))
+    go kind true b p = record { raw = refl; ignored = refl }
+    go kind false true p = record { raw = refl; ignored = refl }
+    go SetupCycle false false p = record { raw = refl; ignored = refl }
+    go GroupCycle false false p = record { raw = refl; ignored = refl }
+    go LimitCycle false false p = record { raw = refl; ignored = refl }
+
+file-tells : (kind : FileCycle) (g : Configuration) (file : List ℕ) → Tells g (fileCycle kind g file)
+unfolding fileCycle turnedAway lengthRefusal ignoredAfter numberOf
+file-tells kind g file =
+    go kind (eqb (length file) (fileLength kind))
+    (cycle-tells (OfFile kind) (command kind file) (clears (command kind file)) (fileActs kind file) g (file-acts kind (OfFile kind) (clears (command kind file)) g file))
+  where
+    go : (kind : FileCycle) (fits : Bool) {r : Decision} → Tells g r → Tells g (cond fits r (turnedAway (lengthRefusal kind) g))
+    go kind true k = k
+    go SetupCycle false k = record { raw = refl; ignored = refl }
+    go GroupCycle false k = record { raw = refl; ignored = refl }
+    go LimitCycle false k = record { raw = refl; ignored = refl }
+
+nudge-tells : (g : Configuration) (w : ℕ) → Tells g (nudgeCycle g w)
+unfolding nudgeCycle nudgeActs ignoredCycle acceptedCycle refusedCycle underway ignoredAfter numberOf
+nudge-tells g w =
+    let o : Configuration = underway NudgeCycle (bit w nudgeClearBit) g in
+    cycle-tells NudgeCycle w (bit w nudgeClearBit) (nudgeActs w) g
+    (go (bit w nudgeClearBit) (stands (o .errors)) (nudgeOutputBad (o .programming) w)
+    (nudgeSetpointBad (scaleFactor (o .programming .setup)) (limitOf (o .programming) (nudgeOutput w)) (nudgePair w) w))
+  where
+    go : (a b c d : Bool)
+        → Tells g
+        (cond a (acceptedCycle (g .programming) (underway NudgeCycle (bit w nudgeClearBit) g))
+        (cond b (ignoredCycle (underway NudgeCycle (bit w nudgeClearBit) g))
+        (cond c (refusedCycle NudgeOutput (underway NudgeCycle (bit w nudgeClearBit) g))
+        (cond d (refusedCycle NudgeSetpoint (underway NudgeCycle (bit w nudgeClearBit) g))
+        (acceptedCycle (nudgedProgramming (g .programming) w) (underway NudgeCycle (bit w nudgeClearBit) g))))))
+    go true b c d = record { raw = refl; ignored = refl }
+    go false true c d = record { raw = refl; ignored = refl }
+    go false false true d = record { raw = refl; ignored = refl }
+    go false false false true = record { raw = refl; ignored = refl }
+    go false false false false = record { raw = refl; ignored = refl }
+
+-- "the raw of the last step since power-up that was not answered 11 (0 if none)", which the Preset bit reads
+pub raw-is : (model : Model) (l : List Call) → configurationOf model l .raw ≡ lastRaw model l
+unfolding configurationOf configurationAfter freshConfiguration stepConfiguration lastRaw
+raw-is model [] = refl
+raw-is model (Step s ∷ l) = go (sound (configurationOf model l) s) (raw-is model l)
+  where
+    go : (q : Bool) → configurationOf model l .raw ≡ lastRaw model l
+        → cond q (withRaw (configurationOf model l) (s .raw)) (withFault (configurationOf model l) true) .raw ≡ cond q (s .raw) (lastRaw model l)
+    go true k = refl
+    go false k = k
+raw-is model (FileCall kind file ∷ l) = file-tells kind (configurationOf model l) file .raw ∙ raw-is model l
+raw-is model (NudgeCall w ∷ l) = nudge-tells (configurationOf model l) w .raw ∙ raw-is model l
+
+-- 5 "Sets MsgIgn": it is set exactly when the last acting cycle was answered 5
+pub ignored-is : (model : Model) (l : List Call) → configurationOf model l .ignored ≡ messageIgnored model l
+unfolding configurationOf configurationAfter freshConfiguration stepConfiguration messageIgnored
+ignored-is model [] = refl
+ignored-is model (Step s ∷ l) = go (sound (configurationOf model l) s) ∙ ignored-is model l
+  where
+    go : (q : Bool) → cond q (withRaw (configurationOf model l) (s .raw)) (withFault (configurationOf model l) true) .ignored ≡ configurationOf model l .ignored
+    go true = refl
+    go false = refl
+ignored-is model (FileCall kind file ∷ l) =
+    let g : Configuration = configurationOf model l in
+    file-tells kind g file .ignored ∙ ap (ignoredAfter (fileCycle kind g file .outcome)) (ignored-is model l)
+ignored-is model (NudgeCall w ∷ l) =
+    let g : Configuration = configurationOf model l in
+    nudge-tells g w .ignored ∙ ap (ignoredAfter (nudgeCycle g w .outcome)) (ignored-is model l)
+
+-- a cycle that is no module start leaves the positions, accepted or not
+same-positions : (q : Bool) (started x : SinceStart) → started .positions ≡ x .positions → cond q started x .positions ≡ x .positions
+same-positions true started x e = e
+same-positions false started x e = refl
+
+-- the Group Positions "that the last step left under its own programming", 0 "with no step since the module start"
+pub positions-are : (model : Model) (l : List Call) → run model l .state .since .positions ≡ leftPositions model l
+unfolding run moduleAfter leftPositions isModuleStart freshModule moduleStart stepCall stepState sinceNow sinceAfter fileCall startOf groupStart limitStart nudgeCall
+positions-are model [] = refl
+positions-are model (Step s ∷ l) =
+    rw (configuration-is model l, conditions-in model l s) (go (sound (configurationOf model l) s))
+  where
+    go : (q : Bool)
+        → cond q (sinceAfter (programmingOf model l) (conditionsIn model l s) (speedNow (programmingOf model l .setup) (run model l .state .since .speed) s) (run model l .state .since)) moduleStart .positions
+        ≡ cond q (positionsIn model l s) (replicate 6 noPosition)
+    go true = positions-in model l (run model l .state .since) (agrees model l) s
+    go false = refl
+positions-are model (FileCall SetupCycle file ∷ l) =
+    rw (configuration-is model l) (go (isAccepted (fileCycle SetupCycle (configurationOf model l) file .outcome)) (positions-are model l))
+  where
+    go : (q : Bool) → run model l .state .since .positions ≡ leftPositions model l
+        → cond q moduleStart (run model l .state .since) .positions ≡ cond q (replicate 6 noPosition) (leftPositions model l)
+    go true k = refl
+    go false k = k
+positions-are model (FileCall GroupCycle file ∷ l) =
+    let x : SinceStart = run model l .state .since in
+    same-positions (isAccepted (fileCycle GroupCycle (run model l .configuration) file .outcome)) (groupStart x) x refl ∙ positions-are model l
+positions-are model (FileCall LimitCycle file ∷ l) =
+    let x : SinceStart = run model l .state .since in
+    same-positions (isAccepted (fileCycle LimitCycle (run model l .configuration) file .outcome)) (limitStart x) x refl ∙ positions-are model l
+positions-are model (NudgeCall w ∷ l) =
+    let x : SinceStart = run model l .state .since in
+    same-positions (isAccepted (nudgeCycle (run model l .configuration) w .outcome)) x x refl ∙ positions-are model l
 
 -- ---- The theorem
 

@@ -4,8 +4,8 @@ use Prim.Native.Nat.{ℕ, _+_, _%_}
 use mathlib.Core.Bool.{Bool, true, false, cond, not, _&&_, _||_}
 use mathlib.Core.List.{List, [], _∷_}
 use mathlib.Core.Option.{Option, none, some}
-use lib.ListN.{length, take, drop}
-use lib.Dec.{ltb, eqb}
+use lib.ListN.{length, take, drop, replicate}
+use lib.Dec.{ltb, leb, eqb}
 use lib.IntN.{ℤ, pos, _+ℤ_}
 use Rattle.rules.specs.declared.MachinePosition.{MachinePosition}
 use Rattle.rules.specs.declared.GroupPosition.{GroupPosition}
@@ -21,6 +21,8 @@ use Rattle.rules.specs.declared.Configuration.{Configuration}
 use Rattle.rules.specs.declared.Sample.{Sample}
 use Rattle.rules.specs.declared.Event.{Event}
 use Rattle.rules.specs.declared.FileCycle.the-variants.{SetupCycle, GroupCycle, LimitCycle}
+use Rattle.rules.specs.declared.Outcome.{Outcome}
+use Rattle.rules.specs.declared.Outcome.the-variants.{Idle, Accepted, Refused}
 use Rattle.rules.specs.declared.Conditions.{Conditions}
 use Rattle.rules.specs.declared.OutputWords.{OutputWords}
 use Rattle.rules.specs.declared.Answer.{Answer}
@@ -30,8 +32,9 @@ use Rattle.rules.specs.Counts.{ahead}
 use Rattle.rules.specs.Motion.{scaleFactor, turned, machineAt, movement, windowSteps, shortSteps, rpmOf, movementOf, conditions, faultConditions}
 use Rattle.rules.specs.Groups.{groupAt, dwellHolds, groupPosition, presets, edge, stops, running, groupEvent, ofGroup, noPosition}
 use Rattle.rules.specs.Switches.{timedSteps, limitOf, ownerOf, timedHolds, ruleAt, outputWords, answerOf}
-use Rattle.rules.specs.Cycle.{isAccepted}
+use Rattle.rules.specs.Cycle.{isAccepted, numberOf}
 use Rattle.rules.specs.FileCycle.{fileCycle}
+use Rattle.rules.specs.Nudge.{nudgeCycle}
 use Rattle.rules.specs.Calls.{Call, Step, FileCall, NudgeCall, freshConfiguration, sound, configurationAfter}
 use Rattle.rules.specs.Quant.{exists, afterEach, noLater, latestSaw, heldUnder}
 
@@ -350,3 +353,33 @@ expectedAnswers model past [] = []
 expectedAnswers model past (Step s ∷ calls) = expectedAnswer model past s ∷ expectedAnswers model (Step s ∷ past) calls
 expectedAnswers model past (FileCall kind file ∷ calls) = expectedAnswers model (FileCall kind file ∷ past) calls
 expectedAnswers model past (NudgeCall w ∷ calls) = expectedAnswers model (NudgeCall w ∷ past) calls
+
+-- ---- What a cycle reads and tells of the past
+
+-- "the raw of the last step since power-up that was not answered 11 (0 if none)"
+unfoldable pub lastRaw : Model → List Call → ℕ
+lastRaw model [] = 0
+lastRaw model (Step s ∷ l) = cond (sound (configurationOf model l) s) (s .raw) (lastRaw model l)
+lastRaw model (FileCall kind file ∷ l) = lastRaw model l
+lastRaw model (NudgeCall w ∷ l) = lastRaw model l
+
+-- "Words 112 to 117 are the Group Positions that the last step left under its own programming; 0 for a group unused then, or with no step since the module start."
+unfoldable pub leftPositions : Model → List Call → List GroupPosition
+leftPositions model [] = replicate 6 noPosition
+leftPositions model (Step s ∷ l) = cond (sound (configurationOf model l) s) (positionsIn model l s) (replicate 6 noPosition)
+leftPositions model (FileCall kind file ∷ l) =
+    cond (isModuleStart (configurationOf model l) (FileCall kind file)) (replicate 6 noPosition) (leftPositions model l)
+leftPositions model (NudgeCall w ∷ l) = leftPositions model l
+
+-- MsgIgn after a cycle with this outcome, where it was `before`. 5 "Sets MsgIgn"; a cycle that does not act, answered Idle, 1 or 2, leaves it, another clears it.
+unfoldable pub ignoredAfter : Outcome → Bool → Bool
+ignoredAfter Idle before = before
+ignoredAfter Accepted before = false
+ignoredAfter (Refused why) before = cond (leb (numberOf why) 2) before (eqb (numberOf why) 5)
+
+-- MsgIgn: the last acting cycle was answered 5
+unfoldable pub messageIgnored : Model → List Call → Bool
+messageIgnored model [] = false
+messageIgnored model (Step s ∷ l) = messageIgnored model l
+messageIgnored model (FileCall kind file ∷ l) = ignoredAfter (fileCycle kind (configurationOf model l) file .outcome) (messageIgnored model l)
+messageIgnored model (NudgeCall w ∷ l) = ignoredAfter (nudgeCycle (configurationOf model l) w .outcome) (messageIgnored model l)

@@ -1,13 +1,12 @@
 -- 01's sentences on a card's groups and on words 112 to 117, of the card itself: for every model, every list of calls from power-up and every step after it.
 -- `ahead` is how far one count is ahead of another modulo SF, so the travel from the one to the other. Assumes nothing.
-use Prim.Native.Nat.{ℕ, suc, _+_, _%_, _≤_, _<_}
+use Prim.Native.Nat.{ℕ, zero, suc, _+_, _%_, _≤_, _<_}
 use mathlib.Core.Path.{_≡_, refl, ap, _∙_}
 use mathlib.Core.Logic.{_↔_, _⊎_, inl, inr}
 use mathlib.Core.Bool.{Bool, true, false, _||_}
 use mathlib.Core.List.{List, [], _∷_, _++_, map}
 use native.Mathlib.Omega.{arith}
-use lib.ListN.{length, getD, set, length-set, length-replicate, length-map, List·getD-append, List·getD-map}
-use lib.Dec.{lit<, lit≤}
+use lib.ListN.{length, getD, set, length-append, length-set, length-map, List·getD-append, List·getD-map}
 use lib.Seq.{getD-set-same, getD-set-other}
 use borrow.Author.Tests.{eq-eqb}
 use Rattle.rules.specs.declared.GroupPosition.{GroupPosition}
@@ -15,20 +14,21 @@ use Rattle.rules.specs.declared.Model.{Model}
 use Rattle.rules.specs.declared.Mode.{Mode}
 use Rattle.rules.specs.declared.Mode.the-variants.{Mode0, Mode1, Mode2, Mode3, Mode4, Mode5}
 use Rattle.rules.specs.declared.Group.{Group}
+use Rattle.rules.specs.declared.Configuration.{Configuration}
 use Rattle.rules.specs.declared.Sample.{Sample}
 use Rattle.rules.specs.declared.FileCycle.the-variants.{GroupCycle}
 use Rattle.rules.specs.declared.Cycle.the-variants.{OfFile}
-use Rattle.rules.specs.Words.{word, table, storedAt}
+use Rattle.rules.specs.Words.{word, storedAt}
 use Rattle.rules.specs.Variants.{modeOf, groupMode, groupType}
 use Rattle.rules.specs.Counts.{ahead}
 use Rattle.rules.specs.Motion.{scaleFactor, machineAt, conditions, level, groupInput}
 use Rattle.rules.specs.Groups.{groupAt, presets, groupEvent, noPosition}
-use Rattle.rules.specs.Cycle.{acts, statusWord}
-use Rattle.rules.specs.FileCycle.{command, fileLength, statusAt, statusWords, fileErrors, failing, fileCycle, fileAfter}
-use Rattle.rules.specs.Calls.{Call, Step, sound}
+use Rattle.rules.specs.Cycle.{acts}
+use Rattle.rules.specs.FileCycle.{fileLength, statusAt, command, statusWords, fileAfter}
+use Rattle.rules.specs.Calls.{Call, Step, FileCall, NudgeCall, sound}
 use Rattle.rules.specs.Card.{conditionsNow, openNow, groupStateAt, fileLeft, stepCall}
 use Rattle.rules.specs.Run.{moduleAfter, run}
-use Rattle.rules.specs.History.{configurationOf, programmingOf, setupInForce, conditionsIn, PastStep, beginsAt, takesAt, edgeAt, stopAt, positionAt, dwellAt, pastOf, qualifiesAt, countsAt, openAt, groupStepIn, sinceGroupStart, groupPast, positionIn, openIn, positionsIn, opennessIn, leftPositions}
+use Rattle.rules.specs.History.{configurationOf, programmingOf, setupInForce, isModuleStart, conditionsIn, PastStep, beginsAt, takesAt, edgeAt, stopAt, positionAt, dwellAt, pastOf, qualifiesAt, countsAt, openAt, groupStepIn, sinceGroupStart, groupPast, positionIn, openIn, positionsIn, opennessIn, leftPositions}
 use Rattle.rules.proofs.Packing.{getD-table-0, length-table}
 use Rattle.rules.proofs.Past.{by, Moment, NoLater}
 use Rattle.rules.proofs.Stretch.{LatestSaw}
@@ -118,3 +118,79 @@ module _ (model : Model) (l : List Call) (s : Sample) (n : ℕ) (b : n < 6) wher
     pub unused-position : program model l n .used ≡ false → cardPosition model l s n .0 ≡ 0
     unfolding positionIn
     unused-position u = ap (λ (p : GroupPosition). p .0) card-position ∙ rw u
+
+    -- a group with a mode over 0 is used
+    by-mode : {X : Type 0} → (program model l n .used ≡ true → X) → (modeIn model l n ≡ Mode0 → X) → X
+    unfolding modeOf
+    by-mode f g = by (program model l n .used) f (λ u. g (ap modeOf (ranges model l .groups n .unused u)))
+
+    preset-mode : (modeIn model l n ≡ Mode1) ⊎ (modeIn model l n ≡ Mode2) → (program model l n .used ≡ true) × (presets (modeIn model l n) ≡ true)
+    unfolding presets
+    preset-mode (inl e) = (by-mode (λ u. u) (λ z. let d : _≡_ {A = ℕ} 0 1 = cc in absurd (omega arith)), rw e)
+    preset-mode (inr e) = (by-mode (λ u. u) (λ z. let d : _≡_ {A = ℕ} 0 1 = cc in absurd (omega arith)), rw e)
+
+    -- "In Modes 1 and 2 the position is the preset in force at the last edge taken since the last start, plus the travel from there, modulo the scale factor"
+    pub preset-position : (modeIn model l n ≡ Mode1) ⊎ (modeIn model l n ≡ Mode2) → (taken : PastStep) → LastTaken taken (groupPast model l s n)
+        → cardPosition model l s n .0
+        ≡ (taken .program .offset + ahead (scaleFactor (setupInForce model l)) (taken .event .machine .0) (machineAt (configurationOf model l) s .0))
+        % scaleFactor (setupInForce model l)
+    unfolding groupPast groupStepIn pastOf groupEvent conditionsIn conditions
+    preset-position m taken e =
+        let f = preset-mode m in
+        ap (λ (p : GroupPosition). p .0) (used-position (f .0)) ∙ preset-reads _ (pastOf (sinceGroupStart model l n)) taken (f .1) (lastTaken-told (groupPast model l s n) taken e)
+
+    -- "with no such edge it is the machine's"
+    pub machine-position : (modeIn model l n ≡ Mode1) ⊎ (modeIn model l n ≡ Mode2) → ((k : List PastStep) → Moment k (groupPast model l s n) → takesAt k ≡ false)
+        → cardPosition model l s n .0 ≡ machineAt (configurationOf model l) s .0
+    unfolding groupPast groupStepIn pastOf groupEvent conditionsIn conditions
+    machine-position m e =
+        let f = preset-mode m in
+        ap (λ (p : GroupPosition). p .0) (used-position (f .0)) ∙ machine-reads _ (pastOf (sinceGroupStart model l n)) (f .1) (noneTaken-told (groupPast model l s n) e)
+
+    -- "Modes 0, 3, 4, 5: Group Position = (Machine Position + group offset) mod SF."
+    pub offset-position : program model l n .used ≡ true → presets (modeIn model l n) ≡ false
+        → cardPosition model l s n .0 ≡ (machineAt (configurationOf model l) s .0 + program model l n .offset) % scaleFactor (setupInForce model l)
+    unfolding groupPast groupStepIn pastOf groupEvent conditionsIn conditions
+    offset-position u m = ap (λ (p : GroupPosition). p .0) (used-position u) ∙ offset-reads _ (pastOf (sinceGroupStart model l n)) m
+
+-- ---- Words 112 to 117
+
+-- words stored into a file: those before their place stay, and word k of them is at their place + k
+stored-before : (at : ℕ) (ws file : List ℕ) (j : ℕ) → j < at → word (storedAt at ws file) j ≡ word file j
+unfolding storedAt
+stored-before at [] file j h = refl
+stored-before at (w ∷ ws) file j h = stored-before (at + 1) ws (set file at w) j (omega arith) ∙ getD-set-other file at j w 0 (λ e. omega arith)
+
+stored-word : (at : ℕ) (ws file : List ℕ) (k : ℕ) → k < length ws → at + length ws ≤ length file → word (storedAt at ws file) (at + k) ≡ getD ws k 0
+unfolding storedAt
+stored-word at [] file k h f = absurd (omega arith)
+stored-word at (w ∷ ws) file zero h f =
+    let e : at + 0 ≡ at = omega arith in
+    rw e (stored-before (at + 1) ws (set file at w) at (omega arith) ∙ getD-set-same file at w 0 (omega arith))
+stored-word at (w ∷ ws) file (suc k) h f =
+    let e : at + suc k ≡ at + 1 + k = omega arith in
+    rw e (stored-word (at + 1) ws (set file at w) k (omega arith) (omega (arith, length-set file at w)))
+
+left-six : (model : Model) (l : List Call) → length (leftPositions model l) ≡ 6
+unfolding leftPositions positionsIn
+left-six model [] = refl
+left-six model (Step s ∷ l) = by (sound (configurationOf model l) s) (λ q. rw q (length-table 6 0 (positionIn model l s))) (λ q. rw q)
+left-six model (FileCall kind file ∷ l) = by (isModuleStart (configurationOf model l) (FileCall kind file)) (λ q. rw q) (λ q. rw q (left-six model l))
+left-six model (NudgeCall w ∷ l) = left-six model l
+
+-- "Words 112 to 117 are the Group Positions that the last step left under its own programming; 0 for a group unused then, or with no step since the module
+-- start.": in the file after an acting group cycle, whatever its outcome
+pub position-words : (model : Model) (l : List Call) (file : List ℕ) (n : ℕ) → length file ≡ 120
+    → acts (OfFile GroupCycle) (command GroupCycle file) (configurationOf model l) ≡ true → n < 6
+    → word (fileLeft GroupCycle (run model l) file) (112 + n) ≡ getD (leftPositions model l) n noPosition .0
+unfolding fileLeft fileAfter fileLength statusAt statusWords
+position-words model l file n size a b =
+    let g : Configuration = configurationOf model l in
+    let six = left-six model l in
+    let told : List ℕ = map (λ (p : GroupPosition). p .0) (leftPositions model l) in
+    let long : length told ≡ 6 = length-map (leftPositions model l) (λ (p : GroupPosition). p .0) ∙ six in
+    let i : 112 + n ≡ 110 + suc (suc n) = omega arith in
+    rw (configuration-is model l, positions-are model l, eq-eqb (length file) 120 size, a, i)
+    (stored-word 110 _ file (suc (suc n)) (omega (arith, length-append told (0 ∷ 0 ∷ []))) (omega (arith, length-append told (0 ∷ 0 ∷ [])))
+    ∙ List·getD-append told (0 ∷ 0 ∷ []) 0 n (omega arith)
+    ∙ List·getD-map (λ (p : GroupPosition). p .0) (leftPositions model l) n noPosition)

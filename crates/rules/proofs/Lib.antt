@@ -13,8 +13,8 @@ pub mod Theorem
 pub mod Ranges
 pub mod Cases
 pub mod Reading
+pub mod Sentences
 pub mod Refusals
 pub mod Reachable
-pub mod Sentences
 pub mod Reports
 pub mod Runs

@@ -117,14 +117,14 @@ module _ {A : Type 0} (P : A → Type 0) (d : A) (last : P d) where
 
 -- ---- A pair, a group, a limit program, a setup in range
 
+-- the divisor is stored less 1, so it is 1 to 63
 pub record SetupWithin (u : Setup) : Type 0 where
   pub least : 2 ≤ scaleFactor u
   pub most : scaleFactor u ≤ 1024
   pub preset : u .preset < scaleFactor u
   pub offset : u .offset < scaleFactor u
   pub multiplier : u .scalars .multiplier ≤ 1100
-  pub divided : 1 ≤ divisor (u .scalars)
-  pub divisor : divisor (u .scalars) ≤ 63
+  pub divider : u .scalars .divider ≤ 62
   pub code : u .scalars .code ≤ 3
 
 pub record GroupWithin (sf : ℕ) (g : Group) : Type 0 where
@@ -253,8 +253,7 @@ setup-range file raw e =
       preset = omega arith;
       offset = go s o (bit (word file 0) presetBit);
       multiplier = w .multiplier;
-      divided = omega arith;
-      divisor = omega arith;
+      divider = omega arith;
       code = w .code;
     }
   where
@@ -264,6 +263,16 @@ setup-range file raw e =
         rw s
         (rw s at (modulo-below (subℕ (word file 2) (scaledPosition (word file 1) (turned (bit (word file 0) directionBit) raw))) (word file 1 - 1)))
     go s o false = rw s o
+
+-- "1 SF 2 to 1024, .. 9 divisor 1 to 63": both are stored less 1, and read back as the file has them
+pub stored-less-1 : (file : List ℕ) (raw : ℕ) → eqb (setupErrors file) 0 ≡ true
+    → (scaleFactor (setupOf file raw) ≡ word file 1) × (divisor (setupOf file raw .scalars) ≡ word file 9)
+unfolding setupOf
+stored-less-1 file raw e =
+    let w = setup-words file e in
+    let l = w .least in
+    let d = w .divided in
+    (omega arith, omega (arith, d))
 
 keep-setup : (p : Programming) (file : List ℕ) (raw : ℕ) → eqb (setupErrors file) 0 ≡ true → Within p → Within (withSetup p (setupOf file raw))
 keep-setup p file raw e k =
@@ -573,8 +582,7 @@ ranges model l = always Within (record {
     preset = lit< tt;
     offset = lit< tt;
     multiplier = lit≤ tt;
-    divided = lit≤ tt;
-    divisor = lit≤ tt;
+    divider = lit≤ tt;
     code = lit≤ tt;
   });
   file = keep-file;

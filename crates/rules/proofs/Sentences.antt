@@ -1,41 +1,53 @@
 -- 01's sentences on a card's groups and on words 112 to 117, of the card itself: for every model, every list of calls from power-up and every step after it.
 -- `ahead` is how far one count is ahead of another modulo SF, so the travel from the one to the other. Assumes nothing.
-use Prim.Native.Nat.{ℕ, zero, suc, _+_, _%_, _≤_, _<_}
-use mathlib.Core.Path.{_≡_, refl, ap, _∙_}
+use Prim.Native.Nat.{ℕ, zero, suc, _+_, _-_, _*_, _/_, _%_, _≤_, _<_}
+use mathlib.Core.Path.{_≡_, refl, sym, ap, _∙_}
 use mathlib.Core.Logic.{_↔_, _⊎_, inl, inr}
-use mathlib.Core.Bool.{Bool, true, false, _||_}
-use mathlib.Core.List.{List, [], _∷_, _++_, map}
+use mathlib.Core.Bool.{Bool, true, false, not, _&&_, _||_, or-false}
+use mathlib.Core.List.{List, [], _∷_, map}
+use native.Mathlib.Nat.{mod-eq-of-lt, add-mod-mod, add-mul-mod-self-right, div-add-mod'}
 use native.Mathlib.Omega.{arith}
 use lib.ListN.{length, getD, set, length-append, length-set, length-map, List·getD-append, List·getD-map}
+use lib.Dec.{ltb, eqb}
+use lib.IntN.{subℕ}
 use lib.Seq.{getD-set-same, getD-set-other}
-use borrow.Author.Tests.{eq-eqb}
+use borrow.Author.Tests.{ltb-false, eq-eqb, ne-eqb}
 use Rattle.rules.specs.declared.GroupPosition.{GroupPosition}
 use Rattle.rules.specs.declared.Model.{Model}
 use Rattle.rules.specs.declared.Mode.{Mode}
 use Rattle.rules.specs.declared.Mode.the-variants.{Mode0, Mode1, Mode2, Mode3, Mode4, Mode5}
 use Rattle.rules.specs.declared.Group.{Group}
+use Rattle.rules.specs.declared.Programming.{Programming}
 use Rattle.rules.specs.declared.Configuration.{Configuration}
 use Rattle.rules.specs.declared.Sample.{Sample}
-use Rattle.rules.specs.declared.FileCycle.the-variants.{GroupCycle}
+use Rattle.rules.specs.declared.FileCycle.the-variants.{SetupCycle, GroupCycle}
 use Rattle.rules.specs.declared.Cycle.the-variants.{OfFile}
-use Rattle.rules.specs.Words.{word, storedAt}
+use Rattle.rules.specs.declared.Outcome.{Outcome}
+use Rattle.rules.specs.declared.Outcome.the-variants.{Idle, Accepted, Refused}
+use Rattle.rules.specs.Words.{word, bit, storedAt, modulo}
 use Rattle.rules.specs.Variants.{modeOf, groupMode, groupType}
 use Rattle.rules.specs.Counts.{ahead}
-use Rattle.rules.specs.Motion.{scaleFactor, machineAt, conditions, level, groupInput}
+use Rattle.rules.specs.Motion.{scaleFactor, turned, scaledPosition, machinePosition, machineAt, divisor, conditions, level, groupInput}
 use Rattle.rules.specs.Groups.{groupAt, presets, groupEvent, noPosition}
-use Rattle.rules.specs.Cycle.{acts}
-use Rattle.rules.specs.FileCycle.{fileLength, statusAt, command, statusWords, fileAfter}
-use Rattle.rules.specs.Calls.{Call, Step, FileCall, NudgeCall, sound}
+use Rattle.rules.specs.Cycle.{numberOf, outcomeNumber, isAccepted, acts}
+use Rattle.rules.specs.SetupWords.{presetBit, directionBit, setupErrors, presetOffset, setupOf}
+use Rattle.rules.specs.FileCycle.{fileLength, statusAt, fileErrors, brought, command, fileCycle, statusWords, fileAfter}
+use Rattle.rules.specs.Nudge.{nudgeCycle}
+use Rattle.rules.specs.Calls.{Call, Step, FileCall, NudgeCall, sound, configurationAfter}
 use Rattle.rules.specs.Card.{conditionsNow, openNow, groupStateAt, fileLeft, stepCall}
 use Rattle.rules.specs.Run.{moduleAfter, run}
-use Rattle.rules.specs.History.{configurationOf, programmingOf, setupInForce, isModuleStart, conditionsIn, PastStep, beginsAt, takesAt, edgeAt, stopAt, positionAt, dwellAt, pastOf, qualifiesAt, countsAt, openAt, groupStepIn, sinceGroupStart, groupPast, positionIn, openIn, positionsIn, opennessIn, leftPositions}
+use Rattle.rules.specs.Quant.{noLater}
+use Rattle.rules.specs.History.{configurationOf, programmingOf, setupInForce, isModuleStart, conditionsIn, PastStep, beginsAt, takesAt, edgeAt, stopAt, positionAt, dwellAt, pastOf, qualifiesAt, countsAt, openAt, groupStepIn, sinceGroupStart, groupPast, positionIn, openIn, positionsIn, opennessIn, lastRaw, leftPositions, acted, ignoredAfter, messageIgnored}
+use Rattle.rules.proofs.Laws.{mod-below, modulo-natural}
 use Rattle.rules.proofs.Packing.{getD-table-0, length-table}
-use Rattle.rules.proofs.Past.{by, Moment, NoLater}
+use Rattle.rules.proofs.Past.{by, Moment, NoLater, later-step}
 use Rattle.rules.proofs.Stretch.{LatestSaw}
+use Rattle.rules.proofs.Cycles.{file-leaves}
+use Rattle.rules.proofs.Programs.{with-setup}
 use Rattle.rules.proofs.Agreement.{configuration-is, agrees, open-in}
-use Rattle.rules.proofs.Theorem.{conditions-in, positions-are}
-use Rattle.rules.proofs.Ranges.{ranges}
-use Rattle.rules.proofs.Reading.{mode2-reads, mode3-reads, mode4-reads, mode5-reads, LastTaken, lastTaken-told, noneTaken-told, preset-reads, machine-reads, offset-reads}
+use Rattle.rules.proofs.Theorem.{conditions-in, raw-is, ignored-is, positions-are}
+use Rattle.rules.proofs.Ranges.{SetupWithin, stored-less-1, ranges}
+use Rattle.rules.proofs.Reading.{noLater-reads, mode2-reads, mode3-reads, mode4-reads, mode5-reads, LastTaken, lastTaken-told, noneTaken-told, preset-reads, machine-reads, offset-reads}
 
 -- ---- What the card has of group n, from 0, in a step with the sample s after the calls l
 
@@ -61,10 +73,13 @@ module _ (model : Model) (l : List Call) (s : Sample) (n : ℕ) (b : n < 6) wher
   pub card-open : cardOpen model l s n ≡ openIn model l s n
   card-open = rw (configuration-is model l, conditions-in model l s) (open-in model l (run model l .state .since) (agrees model l) s n b)
 
-  -- it is the one that the output rule reads (`OutputsRight`, Theorem)
-  pub output-open : getD (opennessIn model l s) n false ≡ cardOpen model l s n
+  -- the openness that the output rule reads (`OutputsRight`, Theorem) is that one
+  pub open-read : getD (opennessIn model l s) n false ≡ openIn model l s n
   unfolding opennessIn
-  output-open = getD-table-0 6 (openIn model l s) false n b ∙ rw card-open
+  open-read = getD-table-0 6 (openIn model l s) false n b
+
+  pub output-open : getD (opennessIn model l s) n false ≡ cardOpen model l s n
+  output-open = open-read ∙ sym card-open
 
   in-mode : (m : Mode) → modeIn model l n ≡ m → cardOpen model l s n ≡ openAt m (groupPast model l s n)
   unfolding openIn
@@ -104,11 +119,26 @@ module _ (model : Model) (l : List Call) (s : Sample) (n : ℕ) (b : n < 6) wher
 
   -- ---- Positions
 
+  -- a group of Mode 1 or 2 is used
+  preset-used : (m : Mode) → modeIn model l n ≡ m → (m ≡ Mode0 → ⊥) → program model l n .used ≡ true
+  unfolding modeOf
+  preset-used m e other =
+      by (program model l n .used) (λ u. u) (λ u. absurd (other (sym e ∙ ap modeOf (ranges model l .groups n .unused u))))
+
+  preset-mode : (modeIn model l n ≡ Mode1) ⊎ (modeIn model l n ≡ Mode2) → (program model l n .used ≡ true) × (presets (modeIn model l n) ≡ true)
+  unfolding presets
+  preset-mode (inl e) = (preset-used Mode1 e (λ z. let d : _≡_ {A = ℕ} 0 1 = cc in omega arith), rw e)
+  preset-mode (inr e) = (preset-used Mode2 e (λ z. let d : _≡_ {A = ℕ} 0 1 = cc in omega arith), rw e)
+
   module _ (ok : sound (configurationOf model l) s ≡ true) where
+    -- the position that the output rule reads is the one that the step leaves
+    pub output-position : cardPosition model l s n ≡ getD (positionsIn model l s) n noPosition
+    unfolding run moduleAfter leftPositions
+    output-position = ap (λ (ps : List GroupPosition). getD ps n noPosition) (positions-are model (Step s ∷ l)) ∙ rw ok
+
     pub card-position : cardPosition model l s n ≡ positionIn model l s n
-    unfolding run moduleAfter leftPositions positionsIn
-    card-position =
-        ap (λ (ps : List GroupPosition). getD ps n noPosition) (positions-are model (Step s ∷ l)) ∙ rw ok (getD-table-0 6 (positionIn model l s) noPosition n b)
+    unfolding positionsIn
+    card-position = output-position ∙ getD-table-0 6 (positionIn model l s) noPosition n b
 
     used-position : program model l n .used ≡ true → cardPosition model l s n ≡ positionAt (groupPast model l s n)
     unfolding positionIn
@@ -118,16 +148,6 @@ module _ (model : Model) (l : List Call) (s : Sample) (n : ℕ) (b : n < 6) wher
     pub unused-position : program model l n .used ≡ false → cardPosition model l s n .0 ≡ 0
     unfolding positionIn
     unused-position u = ap (λ (p : GroupPosition). p .0) card-position ∙ rw u
-
-    -- a group with a mode over 0 is used
-    by-mode : {X : Type 0} → (program model l n .used ≡ true → X) → (modeIn model l n ≡ Mode0 → X) → X
-    unfolding modeOf
-    by-mode f g = by (program model l n .used) f (λ u. g (ap modeOf (ranges model l .groups n .unused u)))
-
-    preset-mode : (modeIn model l n ≡ Mode1) ⊎ (modeIn model l n ≡ Mode2) → (program model l n .used ≡ true) × (presets (modeIn model l n) ≡ true)
-    unfolding presets
-    preset-mode (inl e) = (by-mode (λ u. u) (λ z. let d : _≡_ {A = ℕ} 0 1 = cc in absurd (omega arith)), rw e)
-    preset-mode (inr e) = (by-mode (λ u. u) (λ z. let d : _≡_ {A = ℕ} 0 1 = cc in absurd (omega arith)), rw e)
 
     -- "In Modes 1 and 2 the position is the preset in force at the last edge taken since the last start, plus the travel from there, modulo the scale factor"
     pub preset-position : (modeIn model l n ≡ Mode1) ⊎ (modeIn model l n ≡ Mode2) → (taken : PastStep) → LastTaken taken (groupPast model l s n)
@@ -185,7 +205,6 @@ pub position-words : (model : Model) (l : List Call) (file : List ℕ) (n : ℕ)
     → word (fileLeft GroupCycle (run model l) file) (112 + n) ≡ getD (leftPositions model l) n noPosition .0
 unfolding fileLeft fileAfter fileLength statusAt statusWords
 position-words model l file n size a b =
-    let g : Configuration = configurationOf model l in
     let six = left-six model l in
     let told : List ℕ = map (λ (p : GroupPosition). p .0) (leftPositions model l) in
     let long : length told ≡ 6 = length-map (leftPositions model l) (λ (p : GroupPosition). p .0) ∙ six in
@@ -194,3 +213,80 @@ position-words model l file n size a b =
     (stored-word 110 _ file (suc (suc n)) (omega (arith, length-append told (0 ∷ 0 ∷ []))) (omega (arith, length-append told (0 ∷ 0 ∷ [])))
     ∙ List·getD-append told (0 ∷ 0 ∷ []) 0 n (omega arith)
     ∙ List·getD-map (λ (p : GroupPosition). p .0) (leftPositions model l) n noPosition)
+
+-- ---- MsgIgn
+
+-- of a moment of the calls: its call is a cycle with such an outcome
+abbrev pub cycleAt : (Outcome → Bool) → Model → List Call → Bool
+cycleAt P model [] = false
+cycleAt P model (Step s ∷ l) = false
+cycleAt P model (FileCall kind file ∷ l) = P (fileCycle kind (configurationOf model l) file .outcome)
+cycleAt P model (NudgeCall w ∷ l) = P (nudgeCycle (configurationOf model l) w .outcome)
+
+abbrev pub answered5 : Outcome → Bool
+answered5 outcome = eqb (outcomeNumber outcome) 5
+
+ignored-step : (outcome : Outcome) (before : Bool) → ignoredAfter outcome before ≡ (answered5 outcome || (not (acted outcome) && before))
+unfolding ignoredAfter acted
+ignored-step Idle before = refl
+ignored-step Accepted before = refl
+ignored-step (Refused why) before =
+    by (ltb 2 (numberOf why))
+    (λ q. rw q (sym (or-false (eqb (numberOf why) 5))))
+    (λ q. let m = ltb-false 2 (numberOf why) q in rw (q, ne-eqb (numberOf why) 5 (λ e. omega arith)))
+
+no-later : (model : Model) (l : List Call) → messageIgnored model l ≡ noLater (cycleAt answered5 model) (cycleAt acted model) l
+unfolding messageIgnored
+no-later model [] = unfold noLater in refl
+no-later model (Step s ∷ l) = no-later model l ∙ sym (later-step (cycleAt answered5 model) (cycleAt acted model) (Step s) l)
+no-later model (FileCall kind file ∷ l) =
+    ignored-step (fileCycle kind (configurationOf model l) file .outcome) (messageIgnored model l)
+    ∙ rw (no-later model l) (sym (later-step (cycleAt answered5 model) (cycleAt acted model) (FileCall kind file) l))
+no-later model (NudgeCall w ∷ l) =
+    ignored-step (nudgeCycle (configurationOf model l) w .outcome) (messageIgnored model l)
+    ∙ rw (no-later model l) (sym (later-step (cycleAt answered5 model) (cycleAt acted model) (NudgeCall w) l))
+
+-- 5 "Sets MsgIgn": it stands exactly when a cycle was answered 5 and no later one acted
+pub message-ignored : (model : Model) (l : List Call) → (run model l .configuration .ignored ≡ true) ↔ NoLater (cycleAt answered5 model) (cycleAt acted model) l
+message-ignored model l =
+    rw (configuration-is model l, ignored-is model l, no-later model l) (noLater-reads (cycleAt answered5 model) (cycleAt acted model) l)
+
+-- ---- An accepted setup cycle
+
+-- from b on by (a − b) mod n is a
+ahead-there : (t a b : ℕ) → a < t + 1 → (b + modulo (subℕ a b) (t + 1)) % (t + 1) ≡ a
+ahead-there t a b h =
+    let e : b + (a + (t + 1 - b % (t + 1))) ≡ a + 1 * (t + 1) + b / (t + 1) * (t + 1) = omega (arith, div-add-mod' b (t + 1), mod-below b t) in
+    rw (modulo-natural a b t, add-mod-mod, e)
+    (add-mul-mod-self-right (a + 1 * (t + 1)) (b / (t + 1)) (t + 1) ∙ add-mul-mod-self-right a 1 (t + 1) ∙ mod-eq-of-lt h)
+
+setup-brought : (model : Model) (l : List Call) (file : List ℕ) → isAccepted (fileCycle SetupCycle (configurationOf model l) file .outcome) ≡ true
+    → setupInForce model (FileCall SetupCycle file ∷ l) ≡ setupOf file (lastRaw model l)
+unfolding configurationOf configurationAfter brought
+setup-brought model l file a =
+    let g : Configuration = configurationOf model l in
+    let e : fileCycle SetupCycle g file .configuration .programming ≡ brought SetupCycle g file = rw a at (file-leaves SetupCycle g file .programming) in
+    ap (λ (p : Programming). p .setup) e
+    ∙ with-setup (λ p. p .setup ≡ setupOf file (g .raw)) (g .programming) (setupOf file (g .raw)) refl (λ _. refl)
+    ∙ ap (setupOf file) (raw-is model l)
+
+-- SF and the divisor in force are then the file's
+pub setup-taken : (model : Model) (l : List Call) (file : List ℕ) → isAccepted (fileCycle SetupCycle (configurationOf model l) file .outcome) ≡ true
+    → (scaleFactor (setupInForce model (FileCall SetupCycle file ∷ l)) ≡ word file 1)
+    × (divisor (setupInForce model (FileCall SetupCycle file ∷ l) .scalars) ≡ word file 9)
+setup-taken model l file a =
+    let passed : eqb (setupErrors file) 0 ≡ true = unfold fileErrors in file-leaves SetupCycle (configurationOf model l) file .passed a in
+    rw (setup-brought model l file a) (stored-less-1 file (lastRaw model l) passed)
+
+-- "The Preset bit replaces the offset so that Machine Position equals the preset at the raw of the last step since power-up that was not answered 11 (0 if none)."
+pub preset-bit : (model : Model) (l : List Call) (file : List ℕ) → isAccepted (fileCycle SetupCycle (configurationOf model l) file .outcome) ≡ true
+    → bit (word file 0) presetBit ≡ true
+    → machinePosition (run model (FileCall SetupCycle file ∷ l) .configuration .programming .setup) (lastRaw model l) .0 ≡ word file 2
+unfolding machinePosition setupOf presetOffset
+preset-bit model l file a q =
+    let raw : ℕ = lastRaw model l in
+    let k : SetupWithin (setupOf file raw) = rw (setup-brought model l file a) at (ranges model (FileCall SetupCycle file ∷ l) .setup) in
+    let least = k .least in
+    let e : word file 1 - 1 + 1 ≡ word file 1 = omega arith in
+    rw (configuration-is model (FileCall SetupCycle file ∷ l), setup-brought model l file a, q, e)
+    (rw e at (ahead-there (word file 1 - 1) (word file 2) (scaledPosition (word file 1) (turned (bit (word file 0) directionBit) raw)) (k .preset)))

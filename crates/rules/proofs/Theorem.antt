@@ -4,7 +4,7 @@ use mathlib.Core.Path.{_≡_, refl, ap, _∙_}
 use mathlib.Core.Bool.{Bool, true, false, cond, _&&_}
 use mathlib.Core.List.{List, [], _∷_}
 use native.Mathlib.Omega.{arith}
-use lib.ListN.{length, getD, replicate}
+use lib.ListN.{length, replicate}
 use lib.Dec.{ltb, eqb}
 use borrow.Author.Tests.{ltb-true, ltb-false}
 use Rattle.rules.specs.declared.Model.{Model}
@@ -32,7 +32,7 @@ use Rattle.rules.specs.Nudge.{nudgeClearBit, nudgeOutput, nudgePair, nud
 use Rattle.rules.specs.Calls.{Call, Step, FileCall, NudgeCall, freshConfiguration, sound, stepConfiguration, configurationAfter}
 use Rattle.rules.specs.Card.{speedNow, conditionsNow, ruleNow, outputsNow, moduleStart, groupStart, limitStart, startOf, sinceAfter, freshModule, poweredUp, fileCall, nudgeCall, sinceNow, keptNow, stepState, stepAnswer, stepCall}
 use Rattle.rules.specs.Run.{moduleAfter, run, answers, outputBit, EachStep}
-use Rattle.rules.specs.History.{configurationOf, programmingOf, conditionsIn, positionsIn, opennessIn, lastsIn, ruleIn, outputsIn, lastPosition, previousVirtuals, expectedAnswer, expectedAnswers, isModuleStart, lastRaw, leftPositions, ignoredAfter, messageIgnored}
+use Rattle.rules.specs.History.{configurationOf, programmingOf, conditionsIn, positionsIn, opennessIn, lastsIn, ruleIn, outputsIn, lastPosition, previousVirtuals, expectedAnswer, expectedAnswers, isModuleStart, lastRaw, leftPositions, acted, ignoredAfter, messageIgnored}
 use Rattle.rules.proofs.Packing.{packed-bit, packed-same}
 use Rattle.rules.proofs.Programs.{model-is}
 use Rattle.rules.proofs.OutputRule.{same-conditions, rule-alike}
@@ -90,66 +90,77 @@ kept-is model (NudgeCall w ∷ l) = kept-is model l
 
 -- ---- What a cycle reads and tells of the past
 
--- what a cycle does to the last raw and to MsgIgn
-record Tells (g : Configuration) (r : Decision) : Type 0 where
+-- what a cycle that acts or not does to the last raw and to MsgIgn
+record Tells (g : Configuration) (acting : Bool) (r : Decision) : Type 0 where
   raw : r .configuration .raw ≡ g .raw
   ignored : r .configuration .ignored ≡ ignoredAfter (r .outcome) (g .ignored)
+  outcome : acted (r .outcome) ≡ acting
 
 cycle-tells : (kind : Cycle) (command : ℕ) (clear : Bool) (act : Configuration → Decision) (g : Configuration)
-    → Tells g (act (underway kind clear g)) → Tells g (cycle kind command clear act g)
-unfolding cycle idleCycle ignoredAfter
+    → Tells g true (act (underway kind clear g)) → Tells g (acts kind command g) (cycle kind command clear act g)
+unfolding cycle idleCycle acted ignoredAfter
 cycle-tells kind command clear act g k = go (acts kind command g) (bit command transmitBit)
   where
     go : (a b : Bool)
-        → Tells g (cond a (act (underway kind clear g)) (record { configuration = cond b g (withAcknowledges g (withAcknowledge kind false (g .acknowledges))); outcome = Idle }))
+        → Tells g a (cond a (act (underway kind clear g)) (record { configuration = cond b g (withAcknowledges g (withAcknowledge kind false (g .acknowledges))); outcome = Idle }))
     go true b = k
-    go false true = record { raw = refl; ignored = refl }
-    go false false = record { raw = refl; ignored = refl }
+    go false true = record { raw = refl; ignored = refl; outcome = refl }
+    go false false = record { raw = refl; ignored = refl; outcome = refl }
 
-file-acts : (kind : FileCycle) (c : Cycle) (clear : Bool) (g : Configuration) (file : List ℕ) → Tells g (fileActs kind file (underway c clear g))
-unfolding fileActs judged ignoredCycle acceptedCycle refusedCycle underway ignoredAfter numberOf dataRefusal
-file-acts kind c clear g file = go kind (barred kind (underway c clear g)) (eqb (fileErrors kind (underway c clear g) file) 0) (brought kind (underway c clear g) file)
+file-acts : (kind : FileCycle) (c : Cycle) (clear : Bool) (g : Configuration) (file : List ℕ) → Tells g true (fileActs kind file (underway c clear g))
+unfolding fileActs judged ignoredCycle acceptedCycle refusedCycle underway acted ignoredAfter numberOf dataRefusal
+file-acts kind c clear g file =
+    let o : Configuration = underway c clear g in
+    go kind o refl refl (barred kind o) (eqb (fileErrors kind o file) 0) (brought kind o file)
   where
-    go : (kind : FileCycle) (a b : Bool) (p : Programming)
-        → Tells g (cond a (ignoredCycle (underway c clear g)) (cond b (acceptedCycle p (underway c clear g)) (refusedCycle (dataRefusal kind) (underway c clear g))))
-    go kind true b p = record { raw = refl; ignored = refl }
-    go kind false true p = record { raw = refl; ignored = refl }
-    go SetupCycle false false p = record { raw = refl; ignored = refl }
-    go GroupCycle false false p = record { raw = refl; ignored = refl }
-    go LimitCycle false false p = record { raw = refl; ignored = refl }
+    go : (kind : FileCycle) (o : Configuration) → o .raw ≡ g .raw → o .ignored ≡ false → (a b : Bool) (p : Programming)
+        → Tells g true (cond a (ignoredCycle o) (cond b (acceptedCycle p o) (refusedCycle (dataRefusal kind) o)))
+    go kind o r i true b p = record { raw = r; ignored = refl; outcome = refl }
+    go kind o r i false true p = record { raw = r; ignored = i; outcome = refl }
+    go SetupCycle o r i false false p = record { raw = r; ignored = i; outcome = refl }
+    go GroupCycle o r i false false p = record { raw = r; ignored = i; outcome = refl }
+    go LimitCycle o r i false false p = record { raw = r; ignored = i; outcome = refl }
 
-file-tells : (kind : FileCycle) (g : Configuration) (file : List ℕ) → Tells g (fileCycle kind g file)
-unfolding fileCycle turnedAway lengthRefusal ignoredAfter numberOf
+file-tells : (kind : FileCycle) (g : Configuration) (file : List ℕ)
+    → Tells g (eqb (length file) (fileLength kind) && acts (OfFile kind) (command kind file) g) (fileCycle kind g file)
+unfolding fileCycle turnedAway lengthRefusal acted ignoredAfter numberOf
 file-tells kind g file =
-    go kind (eqb (length file) (fileLength kind))
+    go kind (eqb (length file) (fileLength kind)) (acts (OfFile kind) (command kind file) g)
     (cycle-tells (OfFile kind) (command kind file) (clears (command kind file)) (fileActs kind file) g (file-acts kind (OfFile kind) (clears (command kind file)) g file))
   where
-    go : (kind : FileCycle) (fits : Bool) {r : Decision} → Tells g r → Tells g (cond fits r (turnedAway (lengthRefusal kind) g))
-    go kind true k = k
-    go SetupCycle false k = record { raw = refl; ignored = refl }
-    go GroupCycle false k = record { raw = refl; ignored = refl }
-    go LimitCycle false k = record { raw = refl; ignored = refl }
+    go : (kind : FileCycle) (fits a : Bool) {r : Decision} → Tells g a r → Tells g (fits && a) (cond fits r (turnedAway (lengthRefusal kind) g))
+    go kind true a k = k
+    go SetupCycle false a k = record { raw = refl; ignored = refl; outcome = refl }
+    go GroupCycle false a k = record { raw = refl; ignored = refl; outcome = refl }
+    go LimitCycle false a k = record { raw = refl; ignored = refl; outcome = refl }
 
-nudge-tells : (g : Configuration) (w : ℕ) → Tells g (nudgeCycle g w)
-unfolding nudgeCycle nudgeActs ignoredCycle acceptedCycle refusedCycle underway ignoredAfter numberOf
+nudge-tells : (g : Configuration) (w : ℕ) → Tells g (acts NudgeCycle w g) (nudgeCycle g w)
+unfolding nudgeCycle nudgeActs ignoredCycle acceptedCycle refusedCycle underway acted ignoredAfter numberOf
 nudge-tells g w =
     let o : Configuration = underway NudgeCycle (bit w nudgeClearBit) g in
     cycle-tells NudgeCycle w (bit w nudgeClearBit) (nudgeActs w) g
-    (go (bit w nudgeClearBit) (stands (o .errors)) (nudgeOutputBad (o .programming) w)
+    (go o refl refl (bit w nudgeClearBit) (stands (o .errors)) (nudgeOutputBad (o .programming) w)
     (nudgeSetpointBad (scaleFactor (o .programming .setup)) (limitOf (o .programming) (nudgeOutput w)) (nudgePair w) w))
   where
-    go : (a b c d : Bool)
-        → Tells g
-        (cond a (acceptedCycle (g .programming) (underway NudgeCycle (bit w nudgeClearBit) g))
-        (cond b (ignoredCycle (underway NudgeCycle (bit w nudgeClearBit) g))
-        (cond c (refusedCycle NudgeOutput (underway NudgeCycle (bit w nudgeClearBit) g))
-        (cond d (refusedCycle NudgeSetpoint (underway NudgeCycle (bit w nudgeClearBit) g))
-        (acceptedCycle (nudgedProgramming (g .programming) w) (underway NudgeCycle (bit w nudgeClearBit) g))))))
-    go true b c d = record { raw = refl; ignored = refl }
-    go false true c d = record { raw = refl; ignored = refl }
-    go false false true d = record { raw = refl; ignored = refl }
-    go false false false true = record { raw = refl; ignored = refl }
-    go false false false false = record { raw = refl; ignored = refl }
+    go : (o : Configuration) → o .raw ≡ g .raw → o .ignored ≡ false → (a b c d : Bool)
+        → Tells g true
+        (cond a (acceptedCycle (o .programming) o)
+        (cond b (ignoredCycle o)
+        (cond c (refusedCycle NudgeOutput o)
+        (cond d (refusedCycle NudgeSetpoint o) (acceptedCycle (nudgedProgramming (o .programming) w) o)))))
+    go o r i true b c d = record { raw = r; ignored = i; outcome = refl }
+    go o r i false true c d = record { raw = r; ignored = refl; outcome = refl }
+    go o r i false false true d = record { raw = r; ignored = i; outcome = refl }
+    go o r i false false false true = record { raw = r; ignored = i; outcome = refl }
+    go o r i false false false false = record { raw = r; ignored = i; outcome = refl }
+
+-- a cycle acted exactly where its file is as long as it must be, transmit is set and acknowledge clear
+pub file-acted : (kind : FileCycle) (g : Configuration) (file : List ℕ)
+    → acted (fileCycle kind g file .outcome) ≡ (eqb (length file) (fileLength kind) && acts (OfFile kind) (command kind file) g)
+file-acted kind g file = file-tells kind g file .outcome
+
+pub nudge-acted : (g : Configuration) (w : ℕ) → acted (nudgeCycle g w .outcome) ≡ acts NudgeCycle w g
+nudge-acted g w = nudge-tells g w .outcome
 
 -- "the raw of the last step since power-up that was not answered 11 (0 if none)", which the Preset bit reads
 pub raw-is : (model : Model) (l : List Call) → configurationOf model l .raw ≡ lastRaw model l
@@ -233,6 +244,16 @@ answers-from model past (NudgeCall w ∷ calls) = answers-from model (NudgeCall 
 pub powered-up : (x : Module) (n : ℕ) → modelKnown n ≡ true → poweredUp x n .card ≡ freshModule (modelOf n)
 unfolding poweredUp
 powered-up x n k = rw k
+
+-- the module that power-up gave, through a list of calls, the latest first: what is said of `run` is said of it
+abbrev pub runFrom : Module → List Call → Module
+runFrom x [] = x
+runFrom x (call ∷ l) = moduleAfter (runFrom x l) call
+
+pub run-from : (x : Module) (n : ℕ) → modelKnown n ≡ true → (l : List Call) → runFrom (poweredUp x n .card) l ≡ run (modelOf n) l
+unfolding run
+run-from x n k [] = powered-up x n k
+run-from x n k (call ∷ l) = ap (λ (m : Module). moduleAfter m call) (run-from x n k l)
 
 -- in the order of time: a fresh module's answers to the steps of any list of calls are what 01 says of them
 pub every-answer : (x : Module) (n : ℕ) → modelKnown n ≡ true → (calls : List Call) → answers (poweredUp x n .card) calls ≡ expectedAnswers (modelOf n) [] calls

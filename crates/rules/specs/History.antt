@@ -5,7 +5,7 @@ use mathlib.Core.Bool.{Bool, true, false, cond, not, _&&_, _||_}
 use mathlib.Core.List.{List, [], _∷_}
 use mathlib.Core.Option.{Option, none, some}
 use lib.ListN.{length, take, drop, replicate}
-use lib.Dec.{ltb, leb, eqb}
+use lib.Dec.{ltb, eqb}
 use lib.IntN.{ℤ, pos, _+ℤ_}
 use Rattle.rules.specs.declared.MachinePosition.{MachinePosition}
 use Rattle.rules.specs.declared.GroupPosition.{GroupPosition}
@@ -32,7 +32,7 @@ use Rattle.rules.specs.Counts.{ahead}
 use Rattle.rules.specs.Motion.{scaleFactor, turned, machineAt, movement, windowSteps, shortSteps, rpmOf, movementOf, conditions, faultConditions}
 use Rattle.rules.specs.Groups.{groupAt, dwellHolds, groupPosition, presets, edge, stops, running, groupEvent, ofGroup, noPosition}
 use Rattle.rules.specs.Switches.{timedSteps, limitOf, ownerOf, timedHolds, ruleAt, outputWords, answerOf}
-use Rattle.rules.specs.Cycle.{isAccepted, numberOf}
+use Rattle.rules.specs.Cycle.{numberOf, outcomeNumber, isAccepted}
 use Rattle.rules.specs.FileCycle.{fileCycle}
 use Rattle.rules.specs.Nudge.{nudgeCycle}
 use Rattle.rules.specs.Calls.{Call, Step, FileCall, NudgeCall, freshConfiguration, sound, configurationAfter}
@@ -371,11 +371,15 @@ leftPositions model (FileCall kind file ∷ l) =
     cond (isModuleStart (configurationOf model l) (FileCall kind file)) (replicate 6 noPosition) (leftPositions model l)
 leftPositions model (NudgeCall w ∷ l) = leftPositions model l
 
--- MsgIgn after a cycle with this outcome, where it was `before`. 5 "Sets MsgIgn"; a cycle that does not act, answered Idle, 1 or 2, leaves it, another clears it.
+-- the outcome of a cycle that acted: not Idle, 1 or 2
+unfoldable pub acted : Outcome → Bool
+acted Idle = false
+acted Accepted = true
+acted (Refused why) = ltb 2 (numberOf why)
+
+-- 5 "Sets MsgIgn": MsgIgn after a cycle with this outcome, where it was `before`; a cycle that did not act leaves it
 unfoldable pub ignoredAfter : Outcome → Bool → Bool
-ignoredAfter Idle before = before
-ignoredAfter Accepted before = false
-ignoredAfter (Refused why) before = cond (leb (numberOf why) 2) before (eqb (numberOf why) 5)
+ignoredAfter outcome before = cond (acted outcome) (eqb (outcomeNumber outcome) 5) before
 
 -- MsgIgn: the last acting cycle was answered 5
 unfoldable pub messageIgnored : Model → List Call → Bool

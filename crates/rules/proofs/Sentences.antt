@@ -1,9 +1,10 @@
--- 01's sentences on a card's groups and on words 112 to 117, of the card itself: for every model, every list of calls from power-up and every step after it.
+-- 01's sentences on groups, words 112 to 117, MsgIgn and the Preset bit, of the card itself: for every model, every list of calls from power-up and every
+-- step or cycle after it.
 -- `ahead` is how far one count is ahead of another modulo SF, so the travel from the one to the other. Assumes nothing.
 use Prim.Native.Nat.{ℕ, zero, suc, _+_, _-_, _*_, _/_, _%_, _≤_, _<_}
 use mathlib.Core.Path.{_≡_, refl, sym, ap, _∙_}
 use mathlib.Core.Logic.{_↔_, _⊎_, inl, inr}
-use mathlib.Core.Bool.{Bool, true, false, not, _&&_, _||_, or-false}
+use mathlib.Core.Bool.{Bool, true, false, not, _&&_, _||_, or-false, and-false}
 use mathlib.Core.List.{List, [], _∷_, map}
 use native.Mathlib.Nat.{mod-eq-of-lt, add-mod-mod, add-mul-mod-self-right, div-add-mod'}
 use native.Mathlib.Omega.{arith}
@@ -29,13 +30,14 @@ use Rattle.rules.specs.Variants.{modeOf, groupMode, groupType}
 use Rattle.rules.specs.Counts.{ahead}
 use Rattle.rules.specs.Motion.{scaleFactor, turned, scaledPosition, machinePosition, machineAt, divisor, conditions, level, groupInput}
 use Rattle.rules.specs.Groups.{groupAt, presets, groupEvent, noPosition}
+use Rattle.rules.specs.Switches.{ownerOf, forcedOn, admitted, passes, outputRule, ruleAt}
 use Rattle.rules.specs.Cycle.{numberOf, outcomeNumber, isAccepted, acts}
 use Rattle.rules.specs.SetupWords.{presetBit, directionBit, setupErrors, presetOffset, setupOf}
 use Rattle.rules.specs.FileCycle.{fileLength, statusAt, fileErrors, brought, command, fileCycle, statusWords, fileAfter}
 use Rattle.rules.specs.Nudge.{nudgeCycle}
 use Rattle.rules.specs.Calls.{Call, Step, FileCall, NudgeCall, sound, configurationAfter}
 use Rattle.rules.specs.Card.{conditionsNow, openNow, groupStateAt, fileLeft, stepCall}
-use Rattle.rules.specs.Run.{moduleAfter, run}
+use Rattle.rules.specs.Run.{moduleAfter, run, outputBit}
 use Rattle.rules.specs.Quant.{noLater}
 use Rattle.rules.specs.History.{configurationOf, programmingOf, setupInForce, isModuleStart, conditionsIn, PastStep, beginsAt, takesAt, edgeAt, stopAt, positionAt, dwellAt, pastOf, qualifiesAt, countsAt, openAt, groupStepIn, sinceGroupStart, groupPast, positionIn, openIn, positionsIn, opennessIn, lastRaw, leftPositions, acted, ignoredAfter, messageIgnored}
 use Rattle.rules.proofs.Laws.{mod-below, modulo-natural}
@@ -45,7 +47,7 @@ use Rattle.rules.proofs.Stretch.{LatestSaw}
 use Rattle.rules.proofs.Cycles.{file-leaves}
 use Rattle.rules.proofs.Programs.{with-setup}
 use Rattle.rules.proofs.Agreement.{configuration-is, agrees, open-in}
-use Rattle.rules.proofs.Theorem.{conditions-in, raw-is, ignored-is, positions-are}
+use Rattle.rules.proofs.Theorem.{conditions-in, raw-is, ignored-is, positions-are, each-output}
 use Rattle.rules.proofs.Ranges.{SetupWithin, stored-less-1, ranges}
 use Rattle.rules.proofs.Reading.{noLater-reads, mode2-reads, mode3-reads, mode4-reads, mode5-reads, LastTaken, lastTaken-told, noneTaken-told, preset-reads, machine-reads, offset-reads}
 
@@ -172,6 +174,13 @@ module _ (model : Model) (l : List Call) (s : Sample) (n : ℕ) (b : n < 6) wher
         → cardPosition model l s n .0 ≡ (machineAt (configurationOf model l) s .0 + program model l n .offset) % scaleFactor (setupInForce model l)
     unfolding groupPast groupStepIn pastOf groupEvent conditionsIn conditions
     offset-position u m = ap (λ (p : GroupPosition). p .0) (used-position u) ∙ offset-reads _ (pastOf (sinceGroupStart model l n)) m
+
+-- in Group Mode an output whose group is closed is on only by force
+pub closed-dark : (model : Model) (l : List Call) (s : Sample) (n g : ℕ) → n < 32 → g < 6 → setupInForce model l .independent ≡ false
+    → ownerOf (programmingOf model l) n ≡ suc g → cardOpen model l s g ≡ false → forcedOn s n ≡ false → outputBit (stepCall (run model l) s .answer) n ≡ false
+unfolding ruleAt outputRule passes admitted conditionsIn conditions
+closed-dark model l s n g b c mode owner shut unforced =
+    each-output model l s n b ∙ rw (owner, output-open model l s g c ∙ shut, mode, unforced) (simp and-false)
 
 -- ---- Words 112 to 117
 

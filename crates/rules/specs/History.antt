@@ -1,4 +1,5 @@
--- What 01 says of a list of calls: from the model and the calls' arguments alone, what each step answers. Lists of calls and of steps have the latest first.
+-- What 01 says of a list of calls: from the model and the calls' arguments alone, what each step answers and what a cycle reads and tells of the past.
+-- Lists of calls and of steps have the latest first.
 -- No state is kept and the state machine (Card) is not imported: the past is asked by the quantifiers of Quant. Assumes nothing.
 use Prim.Native.Nat.{ℕ, _+_, _%_}
 use mathlib.Core.Bool.{Bool, true, false, cond, not, _&&_, _||_}

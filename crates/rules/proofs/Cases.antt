@@ -1,23 +1,21 @@
--- 01's lettered cases: one test, computed over the whole table, and the law that turns it into what each line says.
+-- The table of cases: one test, computed over the whole table, and the law that turns it into what each line says.
 -- Assumes nothing.
 use Prim.Native.Nat.{ℕ, zero, suc, _<_}
 use mathlib.Core.Bool.{Bool, true, false, _&&_, not, _||_}
 use mathlib.Core.List.{List, [], _∷_}
-use mathlib.Core.Path.{_≡_, refl}
+use mathlib.Core.Path.{_≡_, refl, ap}
 use native.Mathlib.Omega.{arith}
 use lib.ListN.{length, getD}
 use lib.Dec.{T, eqb, eqb→eq}
-use lib.IntN.{pos}
+use lib.IntN.{ℤ, pos, negsuc}
 use Rattle.rules.specs.declared.Position.the-variants.{OfMachine}
-use Rattle.rules.specs.Variants.{codeOf, modeOf}
-use Rattle.rules.specs.Words.{someOf, modulo, roundHalfUp}
-use Rattle.rules.specs.Motion.{windowTime, rpmOf, tachValue, tachShown, isStop}
+use Rattle.rules.specs.Motion.{rpmOf, tachShown}
 use Rattle.rules.specs.Counts.{ahead, holds}
-use Rattle.rules.specs.Groups.{dwellHolds, groupPosition, presetShift, presets, stops, running, isOpen}
-use Rattle.rules.specs.Switches.{advanceShift, moved, pulseStart, pulseOn, pulseHolds}
+use Rattle.rules.specs.Switches.{moved, pulseHolds}
 use Rattle.rules.specs.LimitWords.{pulseBad, pulsesTouch}
-use Rattle.rules.specs.Card.{positionBy, beginsNow, takesNow, shiftNow, positionNow, heldNow, qualifiedNow, openedNow, groupAfter, freshGroup}
-use Rattle.rules.specs.Cases.{Case, tach, speed, advance, pulses, fits, pair, group, cases, pulseSwitch, positionsWith, mode4Group, stepEvent, openings, Says}
+use Rattle.rules.specs.Card.{freshGroup}
+use Rattle.rules.specs.Cases.{Case, tach, speed, advance, pulses, fits, pair, group, tests, numbers, integers, cases, lettered, ofWords, ofMotion, ofGroups, ofSwitches, ofCycles, ofSetup, ofGroupWords, ofLimitWords, ofNudge, ofReader, switchAt, positionsWith, mode4Group, stepEvent, openings, someSetup, someGroups, threeSwitches, Says}
+use Rattle.rules.proofs.Computes.{machine}
 
 -- ---- Tests of equality
 
@@ -31,6 +29,19 @@ sameBool→ true true t = refl
 sameBool→ true false t = absurd t
 sameBool→ false true t = absurd t
 sameBool→ false false t = refl
+
+sameInteger : ℤ → ℤ → Bool
+sameInteger (pos m) (pos n) = eqb m n
+sameInteger (pos m) (negsuc n) = false
+sameInteger (negsuc m) (pos n) = false
+sameInteger (negsuc m) (negsuc n) = eqb m n
+
+sameInteger→ : (a b : ℤ) → T (sameInteger a b) → a ≡ b
+unfolding sameInteger
+sameInteger→ (pos m) (pos n) t = ap pos (eqb→eq m n t)
+sameInteger→ (pos m) (negsuc n) t = absurd t
+sameInteger→ (negsuc m) (pos n) t = absurd t
+sameInteger→ (negsuc m) (negsuc n) t = ap negsuc (eqb→eq m n t)
 
 both-left : (a b : Bool) → T (a && b) → T a
 both-left true b t = tt
@@ -62,10 +73,13 @@ right (tach rpm multiplier divider code says) = eqb (tachShown (record { multipl
 right (speed fast c says) = eqb (rpmOf fast c) says
 right (advance a c setpoint says) = eqb (moved 1024 a c setpoint) says
 right (pulses on off q k says) =
-    sameList eqb eqb→eq (positionsWith 1024 0 (λ p. pulseHolds 1024 (pos 0) (pulseSwitch on off q k) q k (OfMachine (record { 0 = p })))) says
+    sameList eqb eqb→eq (positionsWith 1024 0 (λ p. pulseHolds 1024 (pos 0) (switchAt 2 q k 0 (on ∷ off ∷ [])) q k (OfMachine (record { 0 = p })))) says
 right (fits on off q k says) = sameBool (not (pulseBad false (ahead 1024 on off) q k || pulsesTouch 1024 (ahead 1024 on off) q k)) says
 right (pair on off at says) = sameBool (holds 1024 on off at) says
 right (group on off steps says) = sameList sameBool sameBool→ (openings (mode4Group on off) freshGroup steps) says
+right (tests given says) = sameList sameBool sameBool→ given says
+right (numbers given says) = sameList eqb eqb→eq given says
+right (integers given says) = sameList sameInteger sameInteger→ given says
 
 right→says : (c : Case) → T (right c) → Says c
 unfolding right
@@ -76,6 +90,9 @@ right→says (pulses on off q k says) t = sameList→ eqb eqb→eq _ says t
 right→says (fits on off q k says) t = sameBool→ _ says t
 right→says (pair on off at says) t = sameBool→ _ says t
 right→says (group on off steps says) t = sameList→ sameBool sameBool→ _ says t
+right→says (tests given says) t = sameList→ sameBool sameBool→ given says t
+right→says (numbers given says) t = sameList→ eqb eqb→eq given says t
+right→says (integers given says) t = sameList→ sameInteger sameInteger→ given says t
 
 allRight : List Case → Bool
 allRight [] = true
@@ -87,16 +104,11 @@ each-says d [] t n h = absurd (omega arith)
 each-says d (c ∷ cs) t zero h = right→says c (both-left (right c) (allRight cs) t)
 each-says d (c ∷ cs) t (suc n) h = each-says d cs (both-right (right c) (allRight cs) t) n (omega arith)
 
--- what a group's step opens
-group-step : Unit {0}
-unfolding groupAfter openedNow qualifiedNow heldNow positionNow shiftNow takesNow beginsNow positionBy dwellHolds groupPosition presetShift presets stops isStop running isOpen codeOf modeOf
-group-step = tt
-
 -- the whole table, computed
 all-right : T (allRight cases)
-unfolding allRight right sameList sameBool cases pulseSwitch positionsWith mode4Group stepEvent openings tachShown tachValue rpmOf windowTime roundHalfUp moved advanceShift modulo pulseHolds pulseOn pulseStart someOf ahead holds pulseBad pulsesTouch group-step
+unfolding machine allRight right sameList sameBool sameInteger cases lettered ofWords ofMotion ofGroups ofSwitches ofCycles ofSetup ofGroupWords ofLimitWords ofNudge ofReader switchAt positionsWith mode4Group stepEvent openings someSetup someGroups threeSwitches
 all-right = tt
 
--- THE CASES: each of 01's lettered lines holds of the definitions
+-- THE CASES: each line, 01's lettered ones first, holds of the definitions
 pub cases-hold : (n : ℕ) → n < length cases → (d : Case) → Says (getD cases n d)
 cases-hold n h d = each-says d cases all-right n h

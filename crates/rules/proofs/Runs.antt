@@ -2,7 +2,7 @@
 -- are dark, and show what 01 names as easy to mistake. Assumes nothing.
 use Prim.Native.Nat.{ℕ, zero, suc}
 use mathlib.Core.Path.{_≡_, refl, _∙_}
-use mathlib.Core.Bool.{Bool, true, false, xor}
+use mathlib.Core.Bool.{Bool, true, false}
 use mathlib.Core.List.{List, [], _∷_, map}
 use lib.ListN.{replicate}
 use lib.IntN.{pos}
@@ -12,99 +12,14 @@ use Rattle.rules.specs.declared.Mode.the-variants.{Mode5}
 use Rattle.rules.specs.declared.Module.{Module}
 use Rattle.rules.specs.declared.FileCycle.the-variants.{SetupCycle, GroupCycle, LimitCycle}
 use Rattle.rules.specs.declared.Answer.{Answer}
-use Rattle.rules.specs.Words
-use Rattle.rules.specs.Variants
-use Rattle.rules.specs.Counts
-use Rattle.rules.specs.Motion
-use Rattle.rules.specs.Groups
-use Rattle.rules.specs.Switches
-use Rattle.rules.specs.Cycle
-use Rattle.rules.specs.SetupWords
-use Rattle.rules.specs.GroupWords
-use Rattle.rules.specs.LimitWords
-use Rattle.rules.specs.FileCycle
-use Rattle.rules.specs.Nudge
-use Rattle.rules.specs.Calls.{Call, Step, FileCall, NudgeCall, defaultSetup, freshConfiguration, sound, stepConfiguration, configurationAfter}
+use Rattle.rules.specs.Words.{storedAt}
+use Rattle.rules.specs.Variants.{modelKnown, modelOf}
+use Rattle.rules.specs.Calls.{Call, Step, FileCall, NudgeCall}
 use Rattle.rules.specs.Card.{poweredUp}
 use Rattle.rules.specs.Run.{answers}
-use Rattle.rules.specs.Quant
-use Rattle.rules.specs.History
 use Rattle.rules.specs.History.{GroupStep, pastOf, openAt, cOf, rpmAt, expectedAnswers}
+use Rattle.rules.proofs.Computes.{history}
 use Rattle.rules.proofs.Theorem.{every-answer}
-
--- ---- What a run opens, by files
-
-words : Unit {0}
-unfolding Words.bit Words.packed Words.someOf Words.eachOf Words.countOf Words.lowestOf Words.table Words.storedAt Words.otherBit Words.anyWord Words.modulo Words.roundHalfUp Words.signedWord Words.differing xor
-words = tt
-
-variants : Unit {0}
-unfolding Variants.modelKnown Variants.modelOf Variants.modelNumber Variants.realCount Variants.virtualCount Variants.ioCount Variants.codeOf Variants.modeOf Variants.switchOf Variants.andedOf
-variants = tt
-
-motion : Unit {0}
-unfolding Motion.realInput Motion.turned Motion.scaledPosition Motion.machinePosition Motion.machineAt Motion.movement Motion.windowSteps Motion.windowTime Motion.rpmOf Motion.isStop Motion.tachValue Motion.tachShown Motion.tachOverflow Motion.detects Motion.realInputs Motion.conditions Motion.faultConditions
-motion = tt
-
-groups : Unit {0}
-unfolding Counts.ahead Counts.holds Counts.pairBad Groups.dwellHolds Groups.groupPosition Groups.presetShift Groups.presets Groups.groupEvent Groups.stops Groups.running Groups.isOpen
-groups = tt
-
-switches1 : Unit {0}
-unfolding Switches.advanceShift Switches.moved Switches.pairHolds Switches.normalHolds Switches.pulseStart Switches.pulseOn Switches.pulseHolds Switches.switchHolds Switches.present Switches.switchPosition Switches.admitted Switches.enableHolds Switches.passes Switches.outputRule Switches.ruleAt Switches.timedHolds Switches.outputOn
-switches1 = tt
-
-switches2 : Unit {0}
-unfolding Switches.changedCount Switches.outputWords Switches.answerOf
-switches2 = tt
-
-cycles1 : Unit {0}
-unfolding Cycle.numberOf Cycle.stands Cycle.acts Cycle.underway Cycle.idleCycle Cycle.cycle Cycle.turnedAway Cycle.ignoredCycle Cycle.refusedCycle Cycle.acceptedCycle Cycle.judged FileCycle.fileLength FileCycle.lengthRefusal FileCycle.commandAt FileCycle.statusAt FileCycle.dataRefusal FileCycle.barred FileCycle.fileErrors
-cycles1 = tt
-
-cycles2 : Unit {0}
-unfolding FileCycle.failing FileCycle.brought FileCycle.fileActs FileCycle.fileCycle FileCycle.statusWords FileCycle.fileAfter Nudge.nudgeOutputBad Nudge.nudgedTo Nudge.leavesRange Nudge.resultBad Nudge.nudgeSetpointBad Nudge.nudgedLimit Nudge.nudgedProgramming Nudge.nudgeActs Nudge.nudgeCycle
-cycles2 = tt
-
-setupWords : Unit {0}
-unfolding SetupWords.setupCommandBits SetupWords.setupReserved SetupWords.sfBad SetupWords.sfJudged SetupWords.detectorBad SetupWords.scalarsBad SetupWords.setupErrors SetupWords.presetOffset SetupWords.setupOf SetupWords.withSetup
-setupWords = tt
-
-groupWords : Unit {0}
-unfolding GroupWords.groupControlBits GroupWords.groupOf GroupWords.dealtUpTo GroupWords.dealtTo GroupWords.ownersOf GroupWords.groupProgramBad GroupWords.groupBits GroupWords.groupCommandBits GroupWords.groupReserved GroupWords.failingGroup GroupWords.groupErrors GroupWords.withGroups
-groupWords = tt
-
-limitWords1 : Unit {0}
-unfolding LimitWords.limitBlock LimitWords.allZero LimitWords.actionOf LimitWords.limitOfBlock LimitWords.limitControlBits LimitWords.controlBad LimitWords.advanceBad LimitWords.blockPairBad LimitWords.setpointBad LimitWords.pulseBad LimitWords.pulsesTouch LimitWords.lengthBad LimitWords.touchBad LimitWords.lengthBit LimitWords.touchBit
-limitWords1 = tt
-
-limitWords2 : Unit {0}
-unfolding LimitWords.blockBits LimitWords.unread LimitWords.limitFrom LimitWords.fifthTimed LimitWords.unassigned LimitWords.limitBits LimitWords.limitCommandBits LimitWords.limitReserved LimitWords.failingLimit LimitWords.limitErrors LimitWords.withLimits
-limitWords2 = tt
-
-calls : Unit {0}
-unfolding defaultSetup freshConfiguration sound stepConfiguration configurationAfter
-calls = tt
-
-quantifiers : Unit {0}
-unfolding Quant.afterEach Quant.noLater Quant.latestSaw Quant.heldUnder
-quantifiers = tt
-
-past1 : Unit {0}
-unfolding History.configurationOf History.isModuleStart History.isGroupStart History.isLimitStart History.since History.turnedIn History.sinceModuleStart History.movementFrom History.movements History.windowTotal History.cOf History.rpmAt History.updateAt History.rpmIn History.conditionsIn History.beginsAt History.takesAt History.levelAt
-past1 = tt
-
-past2 : Unit {0}
-unfolding History.firstAt History.edgeAt History.firstEdgeAt History.stopAt History.runningAt History.lastTaken History.presetPosition History.positionFrom History.positionAt History.dwellAt History.begins History.takes History.pastOf History.latestDwellSaw History.qualifiesAt History.countsAt History.openAt History.groupStepIn
-past2 = tt
-
-past3 : Unit {0}
-unfolding History.sinceGroupStart History.groupPast History.positionIn History.openIn History.positionsIn History.opennessIn History.pairIn History.sinceLimitStart History.heldAt History.lasts History.lastsIn History.ruleIn History.outputsIn History.lastPosition History.previousVirtuals History.expectedAnswer History.expectedAnswers
-past3 = tt
-
-computes : Unit {0}
-unfolding words variants motion groups switches1 switches2 cycles1 cycles2 setupWords groupWords limitWords1 limitWords2 calls quantifiers past1 past2 past3
-computes = tt
 
 -- ---- Whole cards
 
@@ -123,13 +38,13 @@ at raw inputs = Step (record { raw = raw; currents = 0; virtuals = inputs; input
 -- M0 with ClrErr, SF 1024, and a virtual group 1 with output 17: its control word, dwell and offset
 m0 : ℕ → ℕ → ℕ → ℕ → List ℕ
 m0 control on off offset =
-    Words.storedAt 0 (0x8001 ∷ 1024 ∷ 0 ∷ 0 ∷ 0 ∷ 0 ∷ 0 ∷ 0 ∷ 1 ∷ 1 ∷ [])
-    (Words.storedAt 20 (0x8000 ∷ 0 ∷ control ∷ on ∷ off ∷ offset ∷ []) (replicate 120 0))
+    storedAt 0 (0x8001 ∷ 1024 ∷ 0 ∷ 0 ∷ 0 ∷ 0 ∷ 0 ∷ 0 ∷ 1 ∷ 1 ∷ [])
+    (storedAt 20 (0x8000 ∷ 0 ∷ control ∷ on ∷ off ∷ offset ∷ []) (replicate 120 0))
 
 -- M1 with a program for output 17: its control word, one pair and a duration
 m1 : ℕ → ℕ → ℕ → ℕ → List ℕ
 m1 control on off duration =
-    Words.storedAt 0 (0x8000 ∷ []) (Words.storedAt 306 (control ∷ 0 ∷ 0 ∷ on ∷ off ∷ duration ∷ []) (replicate 650 0))
+    storedAt 0 (0x8000 ∷ []) (storedAt 306 (control ∷ 0 ∷ 0 ∷ on ∷ off ∷ duration ∷ []) (replicate 650 0))
 
 -- the three cycles, then the steps
 abbrev with : List ℕ → List ℕ → List Call → List Call
@@ -178,14 +93,14 @@ cardRuns =
 
 -- each run, computed over the whole table
 runs-are : map (λ (r : CardRun). map shown (expectedAnswers M8513 [] (r .calls))) cardRuns ≡ map (λ (r : CardRun). r .says) cardRuns
-unfolding computes cardRuns m0 m1
+unfolding history cardRuns m0 m1
 runs-are = refl
 
 -- an 8513, whatever the place held
 same-answers : (x : Module) (rs : List CardRun)
     → map (λ (r : CardRun). map shown (answers (poweredUp x 8513 .card) (r .calls))) rs
     ≡ map (λ (r : CardRun). map shown (expectedAnswers M8513 [] (r .calls))) rs
-unfolding Variants.modelOf Variants.modelKnown
+unfolding modelOf modelKnown
 same-answers x [] = refl
 same-answers x (r ∷ rs) = rw (every-answer x 8513 refl (r .calls), same-answers x rs)
 
@@ -214,7 +129,7 @@ mode5-run : openings Mode5 []
     (step 1000 true false 9 false ∷ step 20 true false 9 false ∷ step 30 true true 0 true ∷ step 40 true false 0 false ∷ step 60 true true 0 false
     ∷ step 1000 true false 0 false ∷ step 5 true true 0 false ∷ [])
     ≡ false ∷ true ∷ false ∷ false ∷ true ∷ true ∷ false ∷ []
-unfolding computes openings step
+unfolding history openings step
 mode5-run = refl
 
 -- ---- Speed: q from 0 up by one at each step
@@ -226,5 +141,5 @@ downFrom (suc n) = n ∷ downFrom n
 -- c: 0 before the 120th step, then 119, since the first movement is 0, and 120 at the 240th; rpm with TResp 1 from the 600th step on
 speeds : (map (λ (n : ℕ). cOf (downFrom n)) (119 ∷ 120 ∷ 239 ∷ 240 ∷ []) ≡ pos 0 ∷ pos 119 ∷ pos 119 ∷ pos 120 ∷ [])
     × (map (λ (n : ℕ). rpmAt true (downFrom n)) (599 ∷ 600 ∷ []) ≡ 0 ∷ 292 ∷ [])
-unfolding computes downFrom
+unfolding history downFrom
 speeds = (refl, refl)

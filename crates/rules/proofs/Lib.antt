@@ -18,4 +18,5 @@ pub mod Sentences
 pub mod Refusals
 pub mod Reachable
 pub mod Reports
+pub mod Brought
 pub mod Runs

@@ -1,10 +1,10 @@
 -- Runs computed of the history's definitions, whole cards where the run is short; the theorem makes them runs of the card. They rule out that both sides
 -- are dark, and show what 01 names as easy to mistake. Assumes nothing.
-use Prim.Native.Nat.{ℕ, zero, suc}
+use Prim.Native.Nat.{ℕ, zero, suc, _+_, _*_, _-_, _%_}
 use mathlib.Core.Path.{_≡_, refl, _∙_}
-use mathlib.Core.Bool.{Bool, true, false}
-use mathlib.Core.List.{List, [], _∷_, map}
-use lib.ListN.{replicate}
+use mathlib.Core.Bool.{Bool, true, false, cond, _&&_}
+use mathlib.Core.List.{List, [], _∷_, _++_, map}
+use lib.ListN.{replicate, drop}
 use lib.IntN.{pos}
 use Rattle.rules.specs.declared.Model.the-variants.{M8513}
 use Rattle.rules.specs.declared.Mode.{Mode}
@@ -15,98 +15,152 @@ use Rattle.rules.specs.declared.Answer.{Answer}
 use Rattle.rules.specs.Words.{storedAt}
 use Rattle.rules.specs.Variants.{modelKnown, modelOf}
 use Rattle.rules.specs.Calls.{Call, Step, FileCall, NudgeCall}
-use Rattle.rules.specs.Card.{poweredUp}
+use Rattle.rules.specs.Card.{poweredUp, freshModule}
 use Rattle.rules.specs.Run.{answers}
 use Rattle.rules.specs.History.{GroupStep, pastOf, openAt, cOf, rpmAt, expectedAnswers}
-use Rattle.rules.proofs.Computes.{history}
+use Rattle.rules.proofs.Computes.{history, machine}
+use Rattle.rules.proofs.Past.{both}
 use Rattle.rules.proofs.Theorem.{every-answer}
 
 -- ---- Whole cards
 
--- A run of an 8513, and what it answers to its steps: whether 11, and the virtual outputs
-record CardRun : Type 0 where
-  calls : List Call
-  says : List (Bool × ℕ)
+-- a step at a raw position with real input currents and virtual inputs; with real inputs none
+abbrev pub stepped : ℕ → ℕ → ℕ → Call
+stepped raw currents inputs = Step (record { raw = raw; currents = currents; virtuals = inputs; inputson = 0; inputsoff = 0; realon = 0; realoff = 0; virtualon = 0; virtualoff = 0 })
 
-abbrev shown : Answer → Bool × ℕ
-shown a = (a .refused, a .virtuals)
+abbrev pub at : ℕ → ℕ → Call
+at raw inputs = stepped raw 0 inputs
 
--- a step at a raw position with virtual inputs
-abbrev at : ℕ → ℕ → Call
-at raw inputs = Step (record { raw = raw; currents = 0; virtuals = inputs; inputson = 0; inputsoff = 0; realon = 0; realoff = 0; virtualon = 0; virtualoff = 0 })
+-- M0 with a command word for the setup, SF 1024 and active states 1, and the group blocks from the first on
+pub m0 : ℕ → List ℕ → List ℕ
+m0 command blocks =
+    storedAt 0 (command ∷ 1024 ∷ 0 ∷ 0 ∷ 0 ∷ 0 ∷ 0 ∷ 0 ∷ 1 ∷ 1 ∷ 0 ∷ 0xffff ∷ []) (storedAt 20 (0x8000 ∷ 0 ∷ blocks) (replicate 120 0))
 
--- M0 with ClrErr, SF 1024, and a virtual group 1 with output 17: its control word, dwell and offset
-m0 : ℕ → ℕ → ℕ → ℕ → List ℕ
-m0 control on off offset =
-    storedAt 0 (0x8001 ∷ 1024 ∷ 0 ∷ 0 ∷ 0 ∷ 0 ∷ 0 ∷ 0 ∷ 1 ∷ 1 ∷ [])
-    (storedAt 20 (0x8000 ∷ 0 ∷ control ∷ on ∷ off ∷ offset ∷ []) (replicate 120 0))
-
--- M1 with a program for output 17: its control word, one pair and a duration
-m1 : ℕ → ℕ → ℕ → ℕ → List ℕ
-m1 control on off duration =
-    storedAt 0 (0x8000 ∷ []) (storedAt 306 (control ∷ 0 ∷ 0 ∷ on ∷ off ∷ duration ∷ []) (replicate 650 0))
+-- M1 with the first words of outputs' blocks
+pub m1 : List (ℕ × List ℕ) → List ℕ
+m1 [] = storedAt 0 (0x8000 ∷ []) (replicate 650 0)
+m1 (b ∷ blocks) = storedAt (19 * b .0 - 17) (b .1) (m1 blocks)
 
 -- the three cycles, then the steps
-abbrev with : List ℕ → List ℕ → List Call → List Call
+abbrev pub with : List ℕ → List ℕ → List Call → List Call
 with file limits steps = FileCall SetupCycle file ∷ FileCall GroupCycle file ∷ FileCall LimitCycle limits ∷ steps
 
-abbrev mode4 : List ℕ
-mode4 = m0 0xC401 0 50 0
+-- a virtual group 1 with output 17: its control word, dwell and offset
+abbrev pub oneGroup : ℕ → ℕ → ℕ → ℕ → List ℕ
+oneGroup control on off offset = m0 0x8001 (control ∷ on ∷ off ∷ offset ∷ [])
 
--- a normal switch that holds at 0 to 1022
-abbrev whole : List ℕ
-whole = m1 0 0 1023 0
+abbrev pub mode4 : List ℕ
+mode4 = oneGroup 0xC401 0 50 0
 
-cardRuns : List CardRun
+-- a normal switch of output 17 that holds at 0 to 1022
+abbrev pub whole : List ℕ
+whole = m1 ((17, 0 ∷ 0 ∷ 0 ∷ 0 ∷ 1023 ∷ []) ∷ [])
+
+-- A run of a module, and what it answers to its steps: 11 or 0, the real and the virtual outputs
+pub record CardRun : Type 0 where
+  pub number : ℕ
+  pub calls : List Call
+  pub says : List (ℕ × ℕ × ℕ)
+
+abbrev pub shown : Answer → ℕ × ℕ × ℕ
+shown a = (cond (a .refused) 11 0, a .real, a .virtuals)
+
+-- what a step shows that lights no real output, and output 17 or not
+abbrev pub lit : ℕ × ℕ × ℕ
+lit = (0, 0, 1)
+
+abbrev pub dark : ℕ × ℕ × ℕ
+dark = (0, 0, 0)
+
+pub cardRuns : List CardRun
 cardRuns =
     -- h) Mode 4, dwell 0/50, positions 1000, 10, 20, 60: edge at 20 opens steps 3, 4
-    record {
-      calls = with mode4 whole (at 1000 0 ∷ at 10 0 ∷ at 20 1 ∷ at 60 1 ∷ []);
-      says = (false, 0) ∷ (false, 0) ∷ (false, 1) ∷ (false, 1) ∷ [];
-    }
+    record { number = 8513; calls = with mode4 whole (at 1000 0 ∷ at 10 0 ∷ at 20 1 ∷ at 60 1 ∷ []); says = dark ∷ dark ∷ lit ∷ lit ∷ [] }
     -- i) As h, edge at 1000, held: closed
-    ∷ record {
-      calls = with mode4 whole (at 1000 1 ∷ at 10 1 ∷ at 20 1 ∷ at 60 1 ∷ []);
-      says = (false, 0) ∷ (false, 0) ∷ (false, 0) ∷ (false, 0) ∷ [];
-    }
+    ∷ record { number = 8513; calls = with mode4 whole (at 1000 1 ∷ at 10 1 ∷ at 20 1 ∷ at 60 1 ∷ []); says = dark ∷ dark ∷ dark ∷ dark ∷ [] }
     -- the first step carries an edge and a dwell: open at once
-    ∷ record { calls = with mode4 whole (at 10 1 ∷ at 60 0 ∷ []); says = (false, 1) ∷ (false, 1) ∷ [] }
+    ∷ record { number = 8511; calls = with mode4 whole (at 10 1 ∷ at 60 0 ∷ []); says = lit ∷ lit ∷ [] }
     -- Mode 1, dwell 0/50, preset 100, a switch at 100/106: the first edge, at 10, is taken; the second, at 20, is not, no dwell having begun since; the
     -- dwell begins at 960, where the position is 26, and the edge at 970 is taken
     ∷ record {
-      calls = with (m0 0xC101 0 50 100) (m1 0 100 106 0) (at 5 0 ∷ at 10 1 ∷ at 15 0 ∷ at 20 1 ∷ at 960 0 ∷ at 970 1 ∷ []);
-      says = (false, 0) ∷ (false, 1) ∷ (false, 1) ∷ (false, 0) ∷ (false, 0) ∷ (false, 1) ∷ [];
+      number = 8513;
+      calls = with (oneGroup 0xC101 0 50 100) (m1 ((17, 0 ∷ 0 ∷ 0 ∷ 100 ∷ 106 ∷ []) ∷ [])) (at 5 0 ∷ at 10 1 ∷ at 15 0 ∷ at 20 1 ∷ at 960 0 ∷ at 970 1 ∷ []);
+      says = dark ∷ lit ∷ lit ∷ dark ∷ dark ∷ lit ∷ [];
     }
     -- a timed switch of 1 ms at 0/50 in Mode 0: five steps from where its pair begins to hold, and again after it has not held
     ∷ record {
-      calls = with (m0 0xC001 0 0 0) (m1 2 0 50 1) (at 10 0 ∷ at 11 0 ∷ at 12 0 ∷ at 13 0 ∷ at 14 0 ∷ at 15 0 ∷ at 60 0 ∷ at 20 0 ∷ []);
-      says = (false, 1) ∷ (false, 1) ∷ (false, 1) ∷ (false, 1) ∷ (false, 1) ∷ (false, 0) ∷ (false, 0) ∷ (false, 1) ∷ [];
+      number = 8513;
+      calls = with (oneGroup 0xC001 0 0 0) (m1 ((17, 2 ∷ 0 ∷ 0 ∷ 0 ∷ 50 ∷ 1 ∷ []) ∷ [])) (at 10 0 ∷ at 11 0 ∷ at 12 0 ∷ at 13 0 ∷ at 14 0 ∷ at 15 0 ∷ at 60 0 ∷ at 20 0 ∷ []);
+      says = lit ∷ lit ∷ lit ∷ lit ∷ lit ∷ dark ∷ dark ∷ lit ∷ [];
+    }
+    -- a pulse switch as in e), in Mode 0 with the group offset 5
+    ∷ record {
+      number = 8513;
+      calls = with (oneGroup 0xC001 0 0 5) (m1 ((17, 1 ∷ 0 ∷ 0 ∷ 100 ∷ 120 ∷ 3 ∷ 4 ∷ []) ∷ [])) (at 94 0 ∷ at 95 0 ∷ at 98 0 ∷ at 99 0 ∷ at 103 0 ∷ at 114 0 ∷ at 115 0 ∷ []);
+      says = dark ∷ lit ∷ lit ∷ dark ∷ lit ∷ lit ∷ dark ∷ [];
     }
     -- an open Mode 4 group: a refused group cycle (offset 1024; the acknowledge was cleared before) is no start, so it stays open without an edge; a raw over
     -- 1023 is answered 11, and so is the next step; a nudge with bit 14 drops the fault, and the group is closed, since 11 was a start; an edge in the dwell opens it
     ∷ record {
+      number = 8513;
       calls = with mode4 whole
-          (at 10 1 ∷ FileCall GroupCycle (replicate 120 0) ∷ FileCall GroupCycle (m0 0xC401 0 50 1024) ∷ at 20 0 ∷ at 5000 1 ∷ at 30 1 ∷ NudgeCall 0xC000 ∷ at 60 0 ∷ at 10 1 ∷ []);
-      says = (false, 1) ∷ (false, 1) ∷ (true, 0) ∷ (true, 0) ∷ (false, 0) ∷ (false, 1) ∷ [];
+          (at 10 1 ∷ FileCall GroupCycle (replicate 120 0) ∷ FileCall GroupCycle (oneGroup 0xC401 0 50 1024) ∷ at 20 0 ∷ at 5000 1 ∷ at 30 1 ∷ NudgeCall 0xC000 ∷ at 60 0 ∷ at 10 1 ∷ []);
+      says = lit ∷ lit ∷ (11, 0, 0) ∷ (11, 0, 0) ∷ dark ∷ lit ∷ [];
+    }
+    -- Two groups, real outputs. Group 1 is real, in Mode 3, with outputs 1 and 2 (0/1023 and 500/600), its input 1 active in steps 2, 3 and 5 to 8. Group 2 is
+    -- virtual, in Mode 2, with output 17 (100/200), dwell 0/50 and preset 100: an edge of input 18 at 510 is taken and opens; at 430 its position is 20, so that a
+    -- dwell begins and closes; the edge at 530 is taken again
+    ∷ record {
+      number = 8513;
+      calls = with (m0 0x8001 (0x8302 ∷ 0 ∷ 0 ∷ 0 ∷ 0xC201 ∷ 0 ∷ 50 ∷ 100 ∷ []))
+          (m1 ((1, 0 ∷ 0 ∷ 0 ∷ 0 ∷ 1023 ∷ []) ∷ (2, 0 ∷ 0 ∷ 0 ∷ 500 ∷ 600 ∷ []) ∷ (17, 0 ∷ 0 ∷ 0 ∷ 100 ∷ 200 ∷ []) ∷ []))
+          (stepped 10 0 0 ∷ stepped 500 1 0 ∷ stepped 510 1 2 ∷ stepped 560 0 0 ∷ stepped 620 1 0 ∷ stepped 430 1 0 ∷ stepped 520 1 0 ∷ stepped 530 1 2 ∷ []);
+      says = dark ∷ (0, 3, 0) ∷ (0, 3, 1) ∷ lit ∷ (0, 1, 0) ∷ (0, 1, 0) ∷ (0, 3, 0) ∷ (0, 3, 1) ∷ [];
+    }
+    -- Independent Mode on an 8512, the group cycle answered 5: outputs 1, 2 and 17 at 0/100, a real one with its own input active; the LS Enable of output 1 is
+    -- ignored; output 9 is missing
+    ∷ record {
+      number = 8512;
+      calls = with (m0 0x8201 (0x8001 ∷ []))
+          (m1 ((1, 0x8000 ∷ 0 ∷ 0 ∷ 0 ∷ 100 ∷ []) ∷ (2, 0 ∷ 0 ∷ 0 ∷ 0 ∷ 100 ∷ []) ∷ (9, 0 ∷ 0 ∷ 0 ∷ 0 ∷ 100 ∷ []) ∷ (17, 0 ∷ 0 ∷ 0 ∷ 0 ∷ 100 ∷ []) ∷ []))
+          (stepped 10 0x0102 0 ∷ stepped 10 0x0101 0 ∷ stepped 99 0 0 ∷ stepped 100 0x0103 0 ∷ []);
+      says = (0, 2, 1) ∷ (0, 1, 1) ∷ lit ∷ dark ∷ [];
+    }
+    -- LS Enable of its kind, input 7 for output 1 and 23 for output 17, and a detector that is on at rpm 0 (low 100, high 50), in Mode 0: output 2 has MD1, output 3 MD2
+    ∷ record {
+      number = 8513;
+      calls = with (storedAt 4 (100 ∷ 50 ∷ []) (m0 0x8001 (0x8003 ∷ 0 ∷ 0 ∷ 0 ∷ 0xC001 ∷ [])))
+          (m1 ((1, 0x8000 ∷ 0 ∷ 0 ∷ 0 ∷ 100 ∷ []) ∷ (2, 0x2000 ∷ 0 ∷ 0 ∷ 0 ∷ 100 ∷ []) ∷ (3, 0x4000 ∷ 0 ∷ 0 ∷ 0 ∷ 100 ∷ []) ∷ (17, 0x8000 ∷ 0 ∷ 0 ∷ 0 ∷ 100 ∷ []) ∷ []))
+          (stepped 10 0 0 ∷ stepped 10 0x0040 0 ∷ stepped 10 0 0x0040 ∷ []);
+      says = (0, 2, 0) ∷ (0, 3, 0) ∷ (0, 2, 1) ∷ [];
     }
     ∷ []
 
 -- each run, computed over the whole table
-runs-are : map (λ (r : CardRun). map shown (expectedAnswers M8513 [] (r .calls))) cardRuns ≡ map (λ (r : CardRun). r .says) cardRuns
+runs-are : map (λ (r : CardRun). map shown (expectedAnswers (modelOf (r .number)) [] (r .calls))) cardRuns ≡ map (λ (r : CardRun). r .says) cardRuns
 unfolding history cardRuns m0 m1
 runs-are = refl
 
--- an 8513, whatever the place held
-same-answers : (x : Module) (rs : List CardRun)
-    → map (λ (r : CardRun). map shown (answers (poweredUp x 8513 .card) (r .calls))) rs
-    ≡ map (λ (r : CardRun). map shown (expectedAnswers M8513 [] (r .calls))) rs
-unfolding modelOf modelKnown
-same-answers x [] = refl
-same-answers x (r ∷ rs) = rw (every-answer x 8513 refl (r .calls), same-answers x rs)
+-- the runs are of modules that there are
+known : List CardRun → Bool
+known [] = true
+known (r ∷ rs) = modelKnown (r .number) && known rs
+
+all-known : known cardRuns ≡ true
+unfolding history cardRuns known
+all-known = refl
+
+-- a module, whatever the place held
+same-answers : (x : Module) (rs : List CardRun) → known rs ≡ true
+    → map (λ (r : CardRun). map shown (answers (poweredUp x (r .number) .card) (r .calls))) rs
+    ≡ map (λ (r : CardRun). map shown (expectedAnswers (modelOf (r .number)) [] (r .calls))) rs
+unfolding known
+same-answers x [] k = refl
+same-answers x (r ∷ rs) k = let b = both _ _ k in rw (every-answer x (r .number) (b .0) (r .calls), same-answers x rs (b .1))
 
 -- so the card runs
-card-runs : (x : Module) → map (λ (r : CardRun). map shown (answers (poweredUp x 8513 .card) (r .calls))) cardRuns ≡ map (λ (r : CardRun). r .says) cardRuns
-card-runs x = same-answers x cardRuns ∙ runs-are
+pub card-runs : (x : Module) → map (λ (r : CardRun). map shown (answers (poweredUp x (r .number) .card) (r .calls))) cardRuns ≡ map (λ (r : CardRun). r .says) cardRuns
+card-runs x = same-answers x cardRuns all-known ∙ runs-are
 
 -- ---- A Mode 5 group, whose speed would take a card hundreds of steps
 
@@ -143,3 +197,30 @@ speeds : (map (λ (n : ℕ). cOf (downFrom n)) (119 ∷ 120 ∷ 239 ∷ 240 ∷ 
     × (map (λ (n : ℕ). rpmAt true (downFrom n)) (599 ∷ 600 ∷ []) ≡ 0 ∷ 292 ∷ [])
 unfolding history downFrom
 speeds = (refl, refl)
+
+-- ---- A moving card, computed by the state machine: c comes with the 120th step, rpm with the 600th
+
+-- n steps, one count on in each, the first at a raw position
+pub moving : ℕ → ℕ → ℕ → List Call
+moving zero raw inputs = []
+moving (suc n) raw inputs = at (raw % 1024) inputs ∷ moving n (raw + 1) inputs
+
+-- what an 8513 answers to the last n of the calls' steps
+abbrev pub lastShown : ℕ → List Call → List (ℕ × ℕ × ℕ)
+lastShown n calls = drop n (map shown (answers (freshModule M8513) calls))
+
+-- c is 119 at the 120th step, so that an advance of 10 ms moves ON 200 by 49, to 151, and not the OFF setpoint
+pub advanced-run :
+    (lastShown 118 (with (oneGroup 0xC001 0 0 0) (m1 ((17, 0 ∷ 100 ∷ 0 ∷ 200 ∷ 300 ∷ []) ∷ [])) (moving 121 32 0)) ≡ dark ∷ lit ∷ lit ∷ [])
+    × (lastShown 118 (with (oneGroup 0xC001 0 0 0) (m1 ((17, 0 ∷ 100 ∷ 0 ∷ 200 ∷ 300 ∷ []) ∷ [])) (moving 120 31 0 ++ (at 300 0 ∷ []))) ≡ dark ∷ dark ∷ dark ∷ [])
+unfolding machine m0 m1 moving
+advanced-run = (refl, refl)
+
+-- Mode 5, dwell 0/1000, input 17 active: a step in the dwell qualifies when rpm is not 0, with TResp 1 from the 600th step on; after 600 steps without movement
+-- a stop closes; then an edge of the First Cycle Input, 24, opens again
+pub mode5-card :
+    lastShown 598
+    (with (m0 0x8021 (0xE501 ∷ 0 ∷ 1000 ∷ 0 ∷ [])) whole (moving 600 0 1 ++ replicate 600 (at 599 1) ++ (at 599 0x81 ∷ [])))
+    ≡ dark ∷ lit ∷ replicate 599 lit ++ (dark ∷ lit ∷ [])
+unfolding machine m0 m1 moving
+mode5-card = refl

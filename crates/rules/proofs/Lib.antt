@@ -14,9 +14,9 @@ pub mod Theorem
 pub mod Ranges
 pub mod Cases
 pub mod Reading
+pub mod Brought
 pub mod Sentences
 pub mod Refusals
 pub mod Reachable
 pub mod Reports
-pub mod Brought
 pub mod Runs

@@ -1,16 +1,14 @@
 -- 01's sentences on groups, words 112 to 117, MsgIgn and the Preset bit, of the card itself: for every model, every list of calls from power-up and every
 -- step or cycle after it.
 -- `ahead` is how far one count is ahead of another modulo SF, so the travel from the one to the other. Assumes nothing.
-use Prim.Native.Nat.{ℕ, zero, suc, _+_, _-_, _*_, _/_, _%_, _≤_, _<_}
+use Prim.Native.Nat.{ℕ, zero, suc, _+_, _%_, _≤_, _<_}
 use mathlib.Core.Path.{_≡_, refl, sym, ap, _∙_}
 use mathlib.Core.Logic.{_↔_, _⊎_, inl, inr}
 use mathlib.Core.Bool.{Bool, true, false, not, _&&_, _||_, or-false, and-false}
 use mathlib.Core.List.{List, [], _∷_, map}
-use native.Mathlib.Nat.{mod-eq-of-lt, add-mod-mod, add-mul-mod-self-right, div-add-mod'}
 use native.Mathlib.Omega.{arith}
 use lib.ListN.{length, getD, set, length-append, length-set, length-map, List·getD-append, List·getD-map}
 use lib.Dec.{ltb, eqb}
-use lib.IntN.{subℕ}
 use lib.Seq.{getD-set-same, getD-set-other}
 use borrow.Author.Tests.{ltb-false, eq-eqb, ne-eqb}
 use Rattle.rules.specs.declared.GroupPosition.{GroupPosition}
@@ -25,14 +23,14 @@ use Rattle.rules.specs.declared.FileCycle.the-variants.{SetupCycle, Grou
 use Rattle.rules.specs.declared.Cycle.the-variants.{OfFile}
 use Rattle.rules.specs.declared.Outcome.{Outcome}
 use Rattle.rules.specs.declared.Outcome.the-variants.{Idle, Accepted, Refused}
-use Rattle.rules.specs.Words.{word, bit, storedAt, modulo}
+use Rattle.rules.specs.Words.{word, bit, storedAt}
 use Rattle.rules.specs.Variants.{modeOf, groupMode, groupType}
 use Rattle.rules.specs.Counts.{ahead}
-use Rattle.rules.specs.Motion.{scaleFactor, turned, scaledPosition, machinePosition, machineAt, divisor, conditions, level, groupInput}
+use Rattle.rules.specs.Motion.{scaleFactor, machinePosition, machineAt, divisor, conditions, level, groupInput}
 use Rattle.rules.specs.Groups.{groupAt, presets, groupEvent, noPosition}
 use Rattle.rules.specs.Switches.{ownerOf, forcedOn, admitted, passes, outputRule, ruleAt}
 use Rattle.rules.specs.Cycle.{numberOf, outcomeNumber, isAccepted, acts}
-use Rattle.rules.specs.SetupWords.{presetBit, directionBit, setupErrors, presetOffset, setupOf}
+use Rattle.rules.specs.SetupWords.{setupErrors, setupOf}
 use Rattle.rules.specs.FileCycle.{fileLength, statusAt, fileErrors, brought, command, fileCycle, statusWords, fileAfter}
 use Rattle.rules.specs.Nudge.{nudgeCycle}
 use Rattle.rules.specs.Calls.{Call, Step, FileCall, NudgeCall, sound, configurationAfter}
@@ -40,7 +38,7 @@ use Rattle.rules.specs.Card.{conditionsNow, openNow, groupStateAt, fileL
 use Rattle.rules.specs.Run.{moduleAfter, run, outputBit}
 use Rattle.rules.specs.Quant.{noLater}
 use Rattle.rules.specs.History.{configurationOf, programmingOf, setupInForce, isModuleStart, conditionsIn, PastStep, beginsAt, takesAt, edgeAt, stopAt, positionAt, dwellAt, pastOf, qualifiesAt, countsAt, openAt, groupStepIn, sinceGroupStart, groupPast, positionIn, openIn, positionsIn, opennessIn, lastRaw, leftPositions, acted, ignoredAfter, messageIgnored}
-use Rattle.rules.proofs.Laws.{mod-below, modulo-natural}
+use Rattle.rules.proofs.Brought.{preset-shows}
 use Rattle.rules.proofs.Packing.{getD-table-0, length-table}
 use Rattle.rules.proofs.Past.{by, Moment, NoLater, later-step}
 use Rattle.rules.proofs.Stretch.{LatestSaw}
@@ -262,13 +260,6 @@ message-ignored model l =
 
 -- ---- An accepted setup cycle
 
--- from b on by (a − b) mod n is a
-ahead-there : (t a b : ℕ) → a < t + 1 → (b + modulo (subℕ a b) (t + 1)) % (t + 1) ≡ a
-ahead-there t a b h =
-    let e : b + (a + (t + 1 - b % (t + 1))) ≡ a + 1 * (t + 1) + b / (t + 1) * (t + 1) = omega (arith, div-add-mod' b (t + 1), mod-below b t) in
-    rw (modulo-natural a b t, add-mod-mod, e)
-    (add-mul-mod-self-right (a + 1 * (t + 1)) (b / (t + 1)) (t + 1) ∙ add-mul-mod-self-right a 1 (t + 1) ∙ mod-eq-of-lt h)
-
 setup-brought : (model : Model) (l : List Call) (file : List ℕ) → isAccepted (fileCycle SetupCycle (configurationOf model l) file .outcome) ≡ true
     → setupInForce model (FileCall SetupCycle file ∷ l) ≡ setupOf file (lastRaw model l)
 unfolding configurationOf configurationAfter brought
@@ -287,15 +278,18 @@ setup-taken model l file a =
     let passed : eqb (setupErrors file) 0 ≡ true = unfold fileErrors in file-leaves SetupCycle (configurationOf model l) file .passed a in
     rw (setup-brought model l file a) (stored-less-1 file (lastRaw model l) passed)
 
+preset-below : (file : List ℕ) (raw : ℕ) → SetupWithin (setupOf file raw) → word file 2 < word file 1
+unfolding setupOf
+preset-below file raw k =
+    let a = k .least in
+    let b = k .preset in
+    omega arith
+
 -- "The Preset bit replaces the offset so that Machine Position equals the preset at the raw of the last step since power-up that was not answered 11 (0 if none)."
 pub preset-bit : (model : Model) (l : List Call) (file : List ℕ) → isAccepted (fileCycle SetupCycle (configurationOf model l) file .outcome) ≡ true
-    → bit (word file 0) presetBit ≡ true
+    → bit (word file 0) 1 ≡ true
     → machinePosition (run model (FileCall SetupCycle file ∷ l) .configuration .programming .setup) (lastRaw model l) .0 ≡ word file 2
-unfolding machinePosition setupOf presetOffset
 preset-bit model l file a q =
     let raw : ℕ = lastRaw model l in
     let k : SetupWithin (setupOf file raw) = rw (setup-brought model l file a) at (ranges model (FileCall SetupCycle file ∷ l) .setup) in
-    let least = k .least in
-    let e : word file 1 - 1 + 1 ≡ word file 1 = omega arith in
-    rw (configuration-is model (FileCall SetupCycle file ∷ l), setup-brought model l file a, q, e)
-    (rw e at (ahead-there (word file 1 - 1) (word file 2) (scaledPosition (word file 1) (turned (bit (word file 0) directionBit) raw)) (k .preset)))
+    rw (configuration-is model (FileCall SetupCycle file ∷ l), setup-brought model l file a) (preset-shows file raw q (preset-below file raw k))

@@ -17,6 +17,7 @@ pub mod Reading
 pub mod Brought
 pub mod Sentences
 pub mod Refusals
+pub mod RefusedLeaves
 pub mod Reachable
 pub mod Reports
 pub mod Runs

@@ -1,249 +1,336 @@
--- Demand 1 over the definitions that the contracts cite, for every module, file and word: what a refused, an ignored and an Idle call leave as it was, and which
--- refusal each listed cause has. Assumes nothing.
-use Prim.Native.Nat.{ℕ, _*_, _^_, _<_, _≤_}
-use mathlib.Core.Bool.{Bool, true, false, cond, not, _&&_}
-use mathlib.Core.List.{List}
-use mathlib.Core.Path.{_≡_, refl}
+-- Demand 1, the outcomes, over the definitions that the contracts cite, for every module, file, word and sample: each call's causes of refusal in 01's order,
+-- with their numbers and places written out, and each number comes exactly where its cause holds and none before it does. Assumes nothing.
+use Prim.Native.Nat.{ℕ, _+_, _-_, _*_, _/_, _%_, _<_, _≤_}
+use mathlib.Core.Bool.{Bool, true, false, cond, not, _&&_, _||_, true≢false, false≢true, or-true, Bool·not-not}
+use mathlib.Core.List.{List, [], _∷_}
+use mathlib.Core.Logic.{_↔_, _⊎_, ⊎-elim, inl, inr}
+use mathlib.Core.Path.{_≡_, refl, sym, _∙_}
 use native.Mathlib.Omega.{arith}
-use native.Mathlib.Nat.{div-eq-of-lt}
-use borrow.Author.Tests.{ne-eqb, eq-eqb, lt-leb, le-leb}
-use lib.ListN.{length}
-use lib.Dec.{eqb, leb}
-use Rattle.rules.specs.declared.DecimalCode.{DecimalCode}
-use Rattle.rules.specs.declared.DecimalCode.the-variants.{Code0, Code1, Code2, Code3}
-use Rattle.rules.specs.declared.Scalars.{Scalars}
-use Rattle.rules.specs.declared.Configuration.{Configuration}
+use borrow.Author.Tests.{eqb-false, ltb-true, leb-true, leb-false, lt-ltb, le-ltb, ne-eqb, not-true}
+use lib.ListN.{length, getD}
+use lib.Dec.{eqb, ltb, leb}
+use Rattle.rules.specs.declared.Model.the-variants.{M8511, M8512, M8513}
+use Rattle.rules.specs.declared.Errors.{Errors}
 use Rattle.rules.specs.declared.Programming.{Programming}
+use Rattle.rules.specs.declared.Configuration.{Configuration}
 use Rattle.rules.specs.declared.FileCycle.{FileCycle}
-use Rattle.rules.specs.declared.Cycle.{Cycle}
+use Rattle.rules.specs.declared.FileCycle.the-variants.{SetupCycle, GroupCycle, LimitCycle}
 use Rattle.rules.specs.declared.Cycle.the-variants.{OfFile, NudgeCycle}
 use Rattle.rules.specs.declared.Refusal.{Refusal}
-use Rattle.rules.specs.declared.Refusal.the-variants.{UnknownModule, Ignored, NudgeOutput, NudgeSetpoint}
-use Rattle.rules.specs.declared.Outcome.{Outcome}
-use Rattle.rules.specs.declared.Outcome.the-variants.{Idle, Accepted, Refused}
+use Rattle.rules.specs.declared.Refusal.the-variants.{UnknownModule, Ignored, NudgeOutput, NudgeSetpoint, Transducer}
+use Rattle.rules.specs.declared.Outcome.the-variants.{Accepted, Refused}
 use Rattle.rules.specs.declared.Decision.{Decision}
 use Rattle.rules.specs.declared.CycleResult.{CycleResult}
-use Rattle.rules.specs.declared.SinceStart.{SinceStart}
 use Rattle.rules.specs.declared.Module.{Module}
 use Rattle.rules.specs.declared.Sample.{Sample}
-use Rattle.rules.specs.Words.{bit, roundHalfUp}
-use Rattle.rules.specs.Variants.{modelKnown, codeOf, codeNumber}
-use Rattle.rules.specs.Motion.{scaleFactor, divisor, tachValue, tachShown, tachOverflow, faultConditions}
+use Rattle.rules.specs.declared.Answer.{Answer}
+use Rattle.rules.specs.Words.{bit}
+use Rattle.rules.specs.Variants.{modelKnown, modelOf, modelIn}
 use Rattle.rules.specs.Switches.{limitOf, answerOf}
-use Rattle.rules.specs.Cycle.{isAccepted, transmitBit, withAcknowledges, withAcknowledge, acts, underway, cycle, idleCycle, turnedAway, ignoredCycle, refusedCycle, acceptedCycle, judged, stands}
-use Rattle.rules.specs.FileCycle.{fileLength, lengthRefusal, dataRefusal, barred, fileErrors, command, clears, fileActs, fileCycle, fileAfter}
-use Rattle.rules.specs.Nudge.{nudgeClearBit, nudgeOutput, nudgePair, nudgeOutputBad, nudgeSetpointBad, nudgedProgramming, nudgeActs, nudgeCycle}
-use Rattle.rules.specs.Calls.{rawMost, sound, stepConfiguration}
-use Rattle.rules.specs.Card.{poweredUp, finished, fileCall, fileLeft, nudgeCall, stepAnswer, stepCall}
+use Rattle.rules.specs.Cycle.{numberOf, outcomeNumber, noErrors, acts, underway, cycle, idleCycle, turnedAway, ignoredCycle, refusedCycle, acceptedCycle, judged, stands}
+use Rattle.rules.specs.SetupWords.{setupErrors}
+use Rattle.rules.specs.GroupWords.{groupErrors}
+use Rattle.rules.specs.LimitWords.{limitErrors}
+use Rattle.rules.specs.FileCycle.{fileLength, lengthRefusal, commandAt, dataRefusal, barred, fileErrors, brought, command, clears, fileActs, fileCycle}
+use Rattle.rules.specs.Nudge.{nudgeOutputBad, nudgeSetpointBad, nudgedProgramming, nudgeActs, nudgeCycle}
+use Rattle.rules.specs.Reader.{readerRefusal}
+use Rattle.rules.specs.Calls.{sound}
+use Rattle.rules.specs.Card.{freshModule, poweredUp, fileCall, nudgeCall, stepAnswer, stepCall}
 use Rattle.rules.proofs.Cycles.{errors-underway}
+use Rattle.rules.proofs.Past.{both, either, by}
 
--- ---- Power-up
+-- ---- Causes in order
 
--- "3 gives no module": a number that is no module's leaves the place as it was
-pub power-refused : (m : Module) (n : ℕ) → modelKnown n ≡ false → poweredUp m n ≡ record { card = m; outcome = Refused UnknownModule }
-unfolding poweredUp
-power-refused m n k = rw k
+-- the number of the first cause that holds; 0, accepted, where none does
+abbrev pub firstOf : List (Bool × ℕ) → ℕ
+firstOf [] = 0
+firstOf (c ∷ cs) = cond (c .0) (c .1) (firstOf cs)
 
--- ---- A refused call leaves the programming in force
+-- a number is a cause's exactly where that cause holds and none before it does, and 0 exactly where none holds; `Before` says that none before these holds
+abbrev pub Exactly : ℕ → Type 0 → List (Bool × ℕ) → Type 0
+Exactly o Before [] = (o ≡ 0) ↔ Before
+Exactly o Before (c ∷ cs) = ((o ≡ c .1) ↔ (Before × (c .0 ≡ true))) × Exactly o (Before × (c .0 ≡ false)) cs
 
--- of a configuration and what a cycle made of it: where it was refused, the programming is as before
-pub Keeps : Configuration → Decision → Type 0
-Keeps g d = (r : Refusal) → d .outcome ≡ Refused r → d .configuration .programming ≡ g .programming
+-- a number is no cause's and not 0; no two causes have one number, and none has 0
+abbrev pub apart : ℕ → List (Bool × ℕ) → Bool
+apart n [] = not (eqb n 0)
+apart n (c ∷ cs) = not (eqb n (c .1)) && apart n cs
 
-not-refused : (o : Outcome) (r : Refusal) → isAccepted o ≡ true → o ≡ Refused r → ⊥
-not-refused Idle r a e = let z : _≡_ {A = ℕ} 0 1 = cc in omega arith
-not-refused Accepted r a e = let z : _≡_ {A = ℕ} 0 1 = cc in omega arith
-not-refused (Refused q) r a e = let z : _≡_ {A = ℕ} 0 1 = cc in omega arith
+abbrev pub distinct : List (Bool × ℕ) → Bool
+distinct [] = true
+distinct (c ∷ cs) = apart (c .1) cs && distinct cs
 
-idle-refused : (r : Refusal) → Idle ≡ Refused r → ⊥
-idle-refused r e = let z : _≡_ {A = ℕ} 0 1 = cc in omega arith
+differs : (a b : ℕ) → not (eqb a b) ≡ true → a ≡ b → ⊥
+differs a b h = eqb-false a b (not-true (eqb a b) h)
 
-cycle-keeps : (kind : Cycle) (command : ℕ) (clear : Bool) (act : Configuration → Decision) (g : Configuration)
-    → ((h : Configuration) → Keeps h (act h)) → Keeps g (cycle kind command clear act g)
-unfolding Keeps cycle idleCycle underway
-cycle-keeps kind command clear act g k r = go (acts kind command g)
+-- a number that is none of these; the first of these and the others
+split-apart : (n : ℕ) (c : Bool × ℕ) (cs : List (Bool × ℕ)) → apart n (c ∷ cs) ≡ true → (n ≡ c .1 → ⊥) × (apart n cs ≡ true)
+split-apart n c cs h = let p = both (not (eqb n (c .1))) (apart n cs) h in (differs n (c .1) (p .0), p .1)
+
+not-first : (n : ℕ) (cs : List (Bool × ℕ)) → apart n cs ≡ true → n ≡ firstOf cs → ⊥
+not-first n [] h = differs n 0 h
+not-first n (c ∷ cs) h = go (c .0) (not-first n cs (split-apart n c cs h .1))
   where
-    go : (b : Bool) → cond b (act (underway kind clear g)) (idleCycle kind command g) .outcome ≡ Refused r
-        → cond b (act (underway kind clear g)) (idleCycle kind command g) .configuration .programming ≡ g .programming
-    go true e = k (underway kind clear g) r e
-    go false e = absurd (idle-refused r e)
+    go : (b : Bool) → (n ≡ firstOf cs → ⊥) → n ≡ cond b (c .1) (firstOf cs) → ⊥
+    go true k = split-apart n c cs h .0
+    go false k = k
 
-judged-keeps : (barred : Bool) (errors : ℕ) (why : Refusal) (p : Programming) (g : Configuration) → Keeps g (judged barred errors why p g)
-unfolding Keeps judged ignoredCycle refusedCycle acceptedCycle
-judged-keeps barred errors why p g r = go barred (eqb errors 0)
+none-left : (cs : List (Bool × ℕ)) (o : ℕ) (Before : Type 0) → (Before → ⊥) → apart o cs ≡ true → Exactly o Before cs
+none-left [] o Before never h = (λ e. absurd (differs o 0 h e), λ b. absurd (never b))
+none-left (c ∷ cs) o Before never h =
+    let p = split-apart o c cs h in
+    ((λ e. absurd (p .0 e), λ b. absurd (never (b .0))), none-left cs o (Before × (c .0 ≡ false)) (λ b. never (b .0)) (p .1))
+
+from-here : (cs : List (Bool × ℕ)) (Before : Type 0) → Before → distinct cs ≡ true → Exactly (firstOf cs) Before cs
+from-here [] Before b d = (λ _. b, λ _. refl)
+from-here (c ∷ cs) Before b d = go (c .0) (both (apart (c .1) cs) (distinct cs) d) (from-here cs)
   where
-    go : (b q : Bool) → cond b (ignoredCycle g) (cond q (acceptedCycle p g) (refusedCycle why g)) .outcome ≡ Refused r
-        → cond b (ignoredCycle g) (cond q (acceptedCycle p g) (refusedCycle why g)) .configuration .programming ≡ g .programming
-    go true q e = refl
-    go false true e = absurd (not-refused Accepted r refl e)
-    go false false e = refl
+    go : (q : Bool) → (apart (c .1) cs ≡ true) × (distinct cs ≡ true) → ((X : Type 0) → X → distinct cs ≡ true → Exactly (firstOf cs) X cs)
+        → Exactly (cond q (c .1) (firstOf cs)) Before ((q, c .1) ∷ cs)
+    go true p k = ((λ _. (b, refl), λ _. refl), none-left cs (c .1) (Before × (true ≡ false)) (λ x. true≢false (x .1)) (p .0))
+    go false p k =
+        ((λ e. absurd (not-first (c .1) cs (p .0) (sym e)), λ x. absurd (false≢true (x .1))), k (Before × (false ≡ false)) (b, refl) (p .1))
 
-length-keeps : (b : Bool) (why : Refusal) (d : Decision) (g : Configuration) → Keeps g d → Keeps g (cond b d (turnedAway why g))
-unfolding Keeps turnedAway
-length-keeps true why d g k = k
-length-keeps false why d g k = λ r e. refl
+pub exactly : (cs : List (Bool × ℕ)) (o : ℕ) → distinct cs ≡ true → o ≡ firstOf cs → Exactly o Unit cs
+exactly cs o d e = rw e (from-here cs Unit tt d)
 
-pub file-keeps : (kind : FileCycle) (g : Configuration) (file : List ℕ) → Keeps g (fileCycle kind g file)
-unfolding fileCycle fileActs
-file-keeps kind g file =
-    length-keeps (eqb (length file) (fileLength kind)) (lengthRefusal kind) _ g
-    (cycle-keeps (OfFile kind) (command kind file) (clears (command kind file)) (fileActs kind file) g (λ h. judged-keeps _ _ _ _ h))
+-- ---- Cycles that take a file
 
-nudge-act-keeps : (w : ℕ) (g : Configuration) → Keeps g (nudgeActs w g)
-unfolding Keeps nudgeActs ignoredCycle refusedCycle acceptedCycle
-nudge-act-keeps w g r =
-    go (bit w nudgeClearBit) (stands (g .errors)) (nudgeOutputBad (g .programming) w) (nudgeSetpointBad (scaleFactor (g .programming .setup)) (limitOf (g .programming) (nudgeOutput w)) (nudgePair w) w)
-  where
-    go : (a b d e : Bool)
-        → cond a (acceptedCycle (g .programming) g) (cond b (ignoredCycle g) (cond d (refusedCycle NudgeOutput g) (cond e (refusedCycle NudgeSetpoint g) (acceptedCycle (nudgedProgramming (g .programming) w) g)))) .outcome ≡ Refused r
-        → cond a (acceptedCycle (g .programming) g) (cond b (ignoredCycle g) (cond d (refusedCycle NudgeOutput g) (cond e (refusedCycle NudgeSetpoint g) (acceptedCycle (nudgedProgramming (g .programming) w) g)))) .configuration .programming ≡ g .programming
-    go true b d e h = refl
-    go false true d e h = refl
-    go false false true e h = refl
-    go false false false true h = refl
-    go false false false false h = absurd (not-refused Accepted r refl h)
+-- an error stands: SUErr, GPErr, LSErr, I/DNum or I/DSet; "the fault is none"
+abbrev pub anyError : Errors → Bool
+anyError e = e .setup || e .group || e .limit || e .number || e .setpoint
 
-pub nudge-keeps : (g : Configuration) (w : ℕ) → Keeps g (nudgeCycle g w)
-unfolding nudgeCycle
-nudge-keeps g w = cycle-keeps NudgeCycle w (bit w nudgeClearBit) (nudgeActs w) g (nudge-act-keeps w)
+-- "1: M0 length"; Idle; "5: an error stands" that ClrErr does not drop; "6 .. setup .. data"
+abbrev pub setupCauses : Module → List ℕ → List (Bool × ℕ)
+setupCauses m file =
+    (not (eqb (length file) 120), 1)
+    ∷ (not (bit (getD file 0 0) 15) || m .configuration .acknowledges .setup, 65535)
+    ∷ (not (bit (getD file 0 0) 0) && anyError (m .configuration .errors), 5)
+    ∷ (not (eqb (setupErrors file) 0), 6)
+    ∷ []
 
--- DEMAND 1: a call refused with any number leaves the programming in force as it was
-pub file-refused : (kind : FileCycle) (m : Module) (file : List ℕ) (r : Refusal) → fileCall kind m file .outcome ≡ Refused r
-    → fileCall kind m file .card .configuration .programming ≡ m .configuration .programming
-unfolding fileCall Keeps
-file-refused kind m file r e = file-keeps kind (m .configuration) file r e
+-- "1: M0 length"; Idle; "5: an error stands, or a group cycle in Independent Mode"; "7 .. group .. data"
+abbrev pub groupCauses : Module → List ℕ → List (Bool × ℕ)
+groupCauses m file =
+    (not (eqb (length file) 120), 1)
+    ∷ (not (bit (getD file 20 0) 15) || m .configuration .acknowledges .group, 65535)
+    ∷ ((not (bit (getD file 20 0) 0) && anyError (m .configuration .errors)) || m .configuration .programming .setup .independent, 5)
+    ∷ (not (eqb (groupErrors (modelIn (m .configuration)) (m .configuration .programming .setup .top + 1) file) 0), 7)
+    ∷ []
 
-pub nudge-refused : (m : Module) (w : ℕ) (r : Refusal) → nudgeCall m w .outcome ≡ Refused r
-    → nudgeCall m w .card .configuration .programming ≡ m .configuration .programming
-unfolding nudgeCall Keeps
-nudge-refused m w r e = nudge-keeps (m .configuration) w r e
+-- "2: M1 length"; Idle; "5: an error stands"; "8 .. limit data"
+abbrev pub limitCauses : Module → List ℕ → List (Bool × ℕ)
+limitCauses m file =
+    (not (eqb (length file) 650), 2)
+    ∷ (not (bit (getD file 0 0) 15) || m .configuration .acknowledges .limit, 65535)
+    ∷ (not (bit (getD file 0 0) 0) && anyError (m .configuration .errors), 5)
+    ∷ (not (eqb (limitErrors (modelIn (m .configuration)) (m .configuration .programming) file) 0), 8)
+    ∷ []
 
--- ---- Refusals 1 and 2: a wrong length has its number, and nothing at all changes
-
-pub file-length : (kind : FileCycle) (m : Module) (file : List ℕ) → (length file ≡ fileLength kind → ⊥)
-    → (fileCall kind m file ≡ record { card = m; outcome = Refused (lengthRefusal kind) }) × (fileLeft kind m file ≡ file)
-unfolding fileCall fileCycle fileLeft fileAfter turnedAway
-file-length kind m file h = (rw (ne-eqb (length file) (fileLength kind) h), rw (ne-eqb (length file) (fileLength kind) h))
-
--- ---- An acting cycle: which refusal comes first, and for what
-
--- what an acting cycle goes on with
+-- the same by the definitions' tests, of each kind
 abbrev pub actsOn : FileCycle → Module → List ℕ → Configuration
 actsOn kind m file = underway (OfFile kind) (clears (command kind file)) (m .configuration)
 
--- "5: an error stands, or a group cycle in Independent Mode": an error that the cycle does not clear
-pub file-ignored : (kind : FileCycle) (m : Module) (file : List ℕ) → length file ≡ fileLength kind → acts (OfFile kind) (command kind file) (m .configuration) ≡ true
-    → barred kind (actsOn kind m file) ≡ true → fileCall kind m file .outcome ≡ Refused Ignored
-unfolding fileCall fileCycle cycle fileActs judged ignoredCycle
-file-ignored kind m file l a s = rw (eq-eqb (length file) (fileLength kind) l, a, s)
+abbrev pub fileTests : FileCycle → Module → List ℕ → List (Bool × ℕ)
+fileTests kind m file =
+    (not (eqb (length file) (fileLength kind)), numberOf (lengthRefusal kind))
+    ∷ (not (acts (OfFile kind) (command kind file) (m .configuration)), 65535)
+    ∷ (barred kind (actsOn kind m file), numberOf Ignored)
+    ∷ (not (eqb (fileErrors kind (m .configuration) file) 0), numberOf (dataRefusal kind))
+    ∷ []
 
-pub nudge-ignored : (m : Module) (w : ℕ) → acts NudgeCycle w (m .configuration) ≡ true → bit w nudgeClearBit ≡ false
-    → stands (m .configuration .errors) ≡ true → nudgeCall m w .outcome ≡ Refused Ignored
-unfolding nudgeCall nudgeCycle cycle nudgeActs underway ignoredCycle
-nudge-ignored m w a c s = rw (a, c, s)
-
--- "6, 7, 8: setup, group, limit data. 5 comes first.": the check's bits are not all 0 and no error stands
-pub file-data : (kind : FileCycle) (m : Module) (file : List ℕ) → length file ≡ fileLength kind → acts (OfFile kind) (command kind file) (m .configuration) ≡ true
-    → barred kind (actsOn kind m file) ≡ false → (fileErrors kind (m .configuration) file ≡ 0 → ⊥)
-    → fileCall kind m file .outcome ≡ Refused (dataRefusal kind)
-unfolding fileCall fileCycle cycle fileActs judged refusedCycle
-file-data kind m file l a s b =
-    rw (
-      eq-eqb (length file) (fileLength kind) l,
-      a,
-      s,
-      errors-underway kind (OfFile kind) (clears (command kind file)) (m .configuration) file,
-      ne-eqb (fileErrors kind (m .configuration) file) 0 b,
-    )
-
--- "9 ..", and "10, after 9"
-pub nudge-output : (m : Module) (w : ℕ) → acts NudgeCycle w (m .configuration) ≡ true → bit w nudgeClearBit ≡ false
-    → stands (m .configuration .errors) ≡ false → nudgeOutputBad (m .configuration .programming) w ≡ true
-    → nudgeCall m w .outcome ≡ Refused NudgeOutput
-unfolding nudgeCall nudgeCycle cycle nudgeActs underway refusedCycle
-nudge-output m w a c s b = rw (a, c, s, b)
-
-pub nudge-setpoint : (m : Module) (w : ℕ) → acts NudgeCycle w (m .configuration) ≡ true → bit w nudgeClearBit ≡ false
-    → stands (m .configuration .errors) ≡ false → nudgeOutputBad (m .configuration .programming) w ≡ false
-    → nudgeSetpointBad (scaleFactor (m .configuration .programming .setup)) (limitOf (m .configuration .programming) (nudgeOutput w)) (nudgePair w) w ≡ true
-    → nudgeCall m w .outcome ≡ Refused NudgeSetpoint
-unfolding nudgeCall nudgeCycle cycle nudgeActs underway refusedCycle
-nudge-setpoint m w a c s b d = rw (a, c, s, b, d)
-
--- ---- Idle: a cycle of the right length that does not act answers Idle, writes nothing and leaves programming, errors, fault and state
-
--- what an Idle cycle leaves of a module
-pub record Untouched (m : Module) (p : CycleResult) : Type 0 where
-  pub outcome : p .outcome ≡ Idle
-  pub programming : p .card .configuration .programming ≡ m .configuration .programming
-  pub errors : p .card .configuration .errors ≡ m .configuration .errors
-  pub fault : p .card .configuration .fault ≡ m .configuration .fault
-  pub state : p .card .state ≡ m .state
-
-idle-untouched : (kind : Cycle) (command : ℕ) (m : Module) (started : SinceStart) → Untouched m (finished (idleCycle kind command (m .configuration)) started (m .state))
-unfolding idleCycle
-idle-untouched kind command m started = go (bit command transmitBit)
+file-tests : (kind : FileCycle) (m : Module) (file : List ℕ) → outcomeNumber (fileCall kind m file .outcome) ≡ firstOf (fileTests kind m file)
+unfolding fileCall fileCycle cycle fileActs judged turnedAway idleCycle ignoredCycle refusedCycle acceptedCycle
+file-tests kind m file =
+    rw (errors-underway kind (OfFile kind) (clears (command kind file)) (m .configuration) file)
+    (go (eqb (length file) (fileLength kind)) (acts (OfFile kind) (command kind file) (m .configuration)) (barred kind (actsOn kind m file)) (eqb (fileErrors kind (m .configuration) file) 0))
   where
-    go : (b : Bool)
-        → Untouched m (finished (record { configuration = cond b (m .configuration) (withAcknowledges (m .configuration) (withAcknowledge kind false (m .configuration .acknowledges))); outcome = Idle }) started (m .state))
-    go true = record { outcome = refl; programming = refl; errors = refl; fault = refl; state = refl }
-    go false = record { outcome = refl; programming = refl; errors = refl; fault = refl; state = refl }
+    h : Configuration
+    h = actsOn kind m file
+    go : (l a b z : Bool)
+        → outcomeNumber (cond l (cond a (cond b (ignoredCycle h) (cond z (acceptedCycle (brought kind h file) h) (refusedCycle (dataRefusal kind) h))) (idleCycle (OfFile kind) (command kind file) (m .configuration))) (turnedAway (lengthRefusal kind) (m .configuration)) .outcome)
+        ≡ firstOf ((not l, numberOf (lengthRefusal kind)) ∷ (not a, 65535) ∷ (b, numberOf Ignored) ∷ (not z, numberOf (dataRefusal kind)) ∷ [])
+    go false a b z = refl
+    go true false b z = refl
+    go true true true z = refl
+    go true true false true = refl
+    go true true false false = refl
 
-pub file-idle : (kind : FileCycle) (m : Module) (file : List ℕ) → length file ≡ fileLength kind → acts (OfFile kind) (command kind file) (m .configuration) ≡ false
-    → Untouched m (fileCall kind m file) × (fileLeft kind m file ≡ file)
-unfolding fileCall fileCycle cycle fileLeft fileAfter
-file-idle kind m file l a =
-    let e = eq-eqb (length file) (fileLength kind) l in
-    (rw (e, a) (idle-untouched (OfFile kind) (command kind file) m _), rw (e, a))
+pub file-tested : (kind : FileCycle) (m : Module) (file : List ℕ) → Exactly (outcomeNumber (fileCall kind m file .outcome)) Unit (fileTests kind m file)
+unfolding numberOf lengthRefusal dataRefusal
+file-tested SetupCycle m file = exactly (fileTests SetupCycle m file) _ refl (file-tests SetupCycle m file)
+file-tested GroupCycle m file = exactly (fileTests GroupCycle m file) _ refl (file-tests GroupCycle m file)
+file-tested LimitCycle m file = exactly (fileTests LimitCycle m file) _ refl (file-tests LimitCycle m file)
 
-pub nudge-idle : (m : Module) (w : ℕ) → acts NudgeCycle w (m .configuration) ≡ false → Untouched m (nudgeCall m w)
-unfolding nudgeCall nudgeCycle cycle
-nudge-idle m w a = rw a (idle-untouched NudgeCycle w m _)
+idle-reads : (t a : Bool) → not (t && not a) ≡ (not t || a)
+idle-reads true true = refl
+idle-reads true false = refl
+idle-reads false a = refl
+
+stands-reads : (c : Bool) (e : Errors) → anyError (cond c noErrors e) ≡ (not c && anyError e)
+stands-reads true e = refl
+stands-reads false e = refl
+
+-- 01's cases, in their order
+pub setup-outcome : (m : Module) (file : List ℕ) → outcomeNumber (fileCall SetupCycle m file .outcome) ≡ firstOf (setupCauses m file)
+unfolding numberOf fileLength lengthRefusal commandAt dataRefusal barred stands fileErrors acts underway
+setup-outcome m file =
+    rw (← idle-reads (bit (getD file 0 0) 15) (m .configuration .acknowledges .setup), ← stands-reads (bit (getD file 0 0) 0) (m .configuration .errors))
+    (file-tests SetupCycle m file)
+
+pub group-outcome : (m : Module) (file : List ℕ) → outcomeNumber (fileCall GroupCycle m file .outcome) ≡ firstOf (groupCauses m file)
+unfolding numberOf fileLength lengthRefusal commandAt dataRefusal barred stands fileErrors acts underway
+group-outcome m file =
+    rw (← idle-reads (bit (getD file 20 0) 15) (m .configuration .acknowledges .group), ← stands-reads (bit (getD file 20 0) 0) (m .configuration .errors))
+    (file-tests GroupCycle m file)
+
+pub limit-outcome : (m : Module) (file : List ℕ) → outcomeNumber (fileCall LimitCycle m file .outcome) ≡ firstOf (limitCauses m file)
+unfolding numberOf fileLength lengthRefusal commandAt dataRefusal barred stands fileErrors acts underway
+limit-outcome m file =
+    rw (← idle-reads (bit (getD file 0 0) 15) (m .configuration .acknowledges .limit), ← stands-reads (bit (getD file 0 0) 0) (m .configuration .errors))
+    (file-tests LimitCycle m file)
+
+-- each number comes exactly where its cause holds and none before it does; accepted exactly where none holds
+pub setup-exactly : (m : Module) (file : List ℕ) → Exactly (outcomeNumber (fileCall SetupCycle m file .outcome)) Unit (setupCauses m file)
+setup-exactly m file = exactly (setupCauses m file) _ refl (setup-outcome m file)
+
+pub group-exactly : (m : Module) (file : List ℕ) → Exactly (outcomeNumber (fileCall GroupCycle m file .outcome)) Unit (groupCauses m file)
+group-exactly m file = exactly (groupCauses m file) _ refl (group-outcome m file)
+
+pub limit-exactly : (m : Module) (file : List ℕ) → Exactly (outcomeNumber (fileCall LimitCycle m file .outcome)) Unit (limitCauses m file)
+limit-exactly m file = exactly (limitCauses m file) _ refl (limit-outcome m file)
+
+-- ---- The nudge
+
+-- Idle; bit 14 "drops errors and the fault and ends there, accepted"; else 5, "9 .." and "10, after 9"
+abbrev pub nudgeCauses : Module → ℕ → List (Bool × ℕ)
+nudgeCauses m w =
+    (not (bit w 15) || m .configuration .acknowledges .nudge, 65535)
+    ∷ (not (bit w 14) && anyError (m .configuration .errors), 5)
+    ∷ (not (bit w 14) && nudgeOutputBad (m .configuration .programming) w, 9)
+    ∷ (not (bit w 14) && nudgeSetpointBad (m .configuration .programming .setup .top + 1) (limitOf (m .configuration .programming) (w % 32)) (w / 32 % 8) w, 10)
+    ∷ []
+
+pub nudge-outcome : (m : Module) (w : ℕ) → outcomeNumber (nudgeCall m w .outcome) ≡ firstOf (nudgeCauses m w)
+unfolding nudgeCall nudgeCycle cycle nudgeActs acts stands underway idleCycle ignoredCycle refusedCycle acceptedCycle numberOf
+nudge-outcome m w =
+    rw (← idle-reads (bit w 15) (m .configuration .acknowledges .nudge))
+    (go (bit w 15 && not (m .configuration .acknowledges .nudge)) (bit w 14) (nudgeOutputBad (m .configuration .programming) w)
+    (nudgeSetpointBad (m .configuration .programming .setup .top + 1) (limitOf (m .configuration .programming) (w % 32)) (w / 32 % 8) w))
+  where
+    g : Configuration
+    g = m .configuration
+    h : Bool → Configuration
+    h c = underway NudgeCycle c g
+    go : (a c b9 b10 : Bool)
+        → outcomeNumber (cond a (cond c (acceptedCycle (g .programming) (h c)) (cond (stands (h c .errors)) (ignoredCycle (h c)) (cond b9 (refusedCycle NudgeOutput (h c)) (cond b10 (refusedCycle NudgeSetpoint (h c)) (acceptedCycle (nudgedProgramming (g .programming) w) (h c)))))) (idleCycle NudgeCycle w g) .outcome)
+        ≡ firstOf ((not a, 65535) ∷ (not c && anyError (g .errors), 5) ∷ (not c && b9, 9) ∷ (not c && b10, 10) ∷ [])
+    go false c b9 b10 = refl
+    go true true b9 b10 = refl
+    go true false b9 b10 = inner (anyError (g .errors)) b9 b10
+      where
+        inner : (s b9 b10 : Bool)
+            → outcomeNumber (cond s (ignoredCycle (h false)) (cond b9 (refusedCycle NudgeOutput (h false)) (cond b10 (refusedCycle NudgeSetpoint (h false)) (acceptedCycle (nudgedProgramming (g .programming) w) (h false)))) .outcome)
+            ≡ firstOf ((s, 5) ∷ (b9, 9) ∷ (b10, 10) ∷ [])
+        inner true b9 b10 = refl
+        inner false true b10 = refl
+        inner false false true = refl
+        inner false false false = refl
+
+pub nudge-exactly : (m : Module) (w : ℕ) → Exactly (outcomeNumber (nudgeCall m w .outcome)) Unit (nudgeCauses m w)
+nudge-exactly m w = exactly (nudgeCauses m w) _ refl (nudge-outcome m w)
+
+-- ---- Power-up
+
+-- "3: unknown module"
+abbrev pub powerCauses : ℕ → List (Bool × ℕ)
+powerCauses n = (not (eqb n 8511 || eqb n 8512 || eqb n 8513), 3) ∷ []
+
+pub power-outcome : (m : Module) (n : ℕ) → outcomeNumber (poweredUp m n .outcome) ≡ firstOf (powerCauses n)
+unfolding poweredUp modelKnown numberOf
+power-outcome m n = go (eqb n 8511) (eqb n 8512) (eqb n 8513)
+  where
+    go : (a b c : Bool)
+        → outcomeNumber (cond {A = CycleResult} (a || (b || (c || false))) (record { card = freshModule (modelOf n); outcome = Accepted }) (record { card = m; outcome = Refused UnknownModule }) .outcome)
+        ≡ firstOf ((not (a || b || c), 3) ∷ [])
+    go true b c = refl
+    go false true c = refl
+    go false false true = refl
+    go false false false = refl
+
+none-of-three : (a b c : Bool) → not (a || b || c) ≡ true → (a ≡ false) × (b ≡ false) × (c ≡ false)
+none-of-three true b c h = absurd (false≢true h)
+none-of-three false true c h = absurd (false≢true h)
+none-of-three false false true h = absurd (false≢true h)
+none-of-three false false false h = (refl, refl, refl)
+
+-- "3: unknown module (gives no module) .. Nothing changes."
+pub power-3 : (m : Module) (n : ℕ) → (outcomeNumber (poweredUp m n .outcome) ≡ 3) ↔ ((n ≡ 8511 → ⊥) × (n ≡ 8512 → ⊥) × (n ≡ 8513 → ⊥))
+power-3 m n =
+    (λ e. let h = none-of-three (eqb n 8511) (eqb n 8512) (eqb n 8513) (exactly (powerCauses n) _ refl (power-outcome m n) .0 .0 e .1) in
+    (eqb-false n 8511 (h .0), eqb-false n 8512 (h .1), eqb-false n 8513 (h .2)),
+    λ h. power-outcome m n ∙ rw (ne-eqb n 8511 (h .0), ne-eqb n 8512 (h .1), ne-eqb n 8513 (h .2)))
+
+pub power-refused : (m : Module) (n : ℕ) → outcomeNumber (poweredUp m n .outcome) ≡ 3 → poweredUp m n .card ≡ m
+unfolding poweredUp
+power-refused m n = go (modelKnown n)
+  where
+    go : (k : Bool) → outcomeNumber (cond {A = CycleResult} k (record { card = freshModule (modelOf n); outcome = Accepted }) (record { card = m; outcome = Refused UnknownModule }) .outcome) ≡ 3
+        → cond {A = CycleResult} k (record { card = freshModule (modelOf n); outcome = Accepted }) (record { card = m; outcome = Refused UnknownModule }) .card ≡ m
+    go true e = absurd (omega arith)
+    go false e = refl
+
+-- "Power-up takes 8511, 8512 or 8513"
+pub power-accepted : (m : Module)
+    → (poweredUp m 8511 ≡ record { card = freshModule M8511; outcome = Accepted })
+    × (poweredUp m 8512 ≡ record { card = freshModule M8512; outcome = Accepted })
+    × (poweredUp m 8513 ≡ record { card = freshModule M8513; outcome = Accepted })
+unfolding poweredUp modelKnown modelOf
+power-accepted m = (refl, refl, refl)
+
+-- ---- The block reader
+
+-- "1: M0 length; 2: M1 length; .. 4: block number outside 1 to 6 or 1 to 32. Lengths come first, .. 1 before 2."
+abbrev pub readerCauses : ℕ → ℕ → Bool → ℕ → List (Bool × ℕ)
+readerCauses length0 length1 group n = (not (eqb length0 120), 1) ∷ (not (eqb length1 650), 2) ∷ (eqb n 0 || ltb (cond group 6 32) n, 4) ∷ []
+
+pub reader-outcome : (length0 length1 : ℕ) (group : Bool) (n : ℕ) → readerRefusal length0 length1 group n ≡ firstOf (readerCauses length0 length1 group n)
+unfolding readerRefusal numberOf
+reader-outcome length0 length1 group n = refl
+
+pub reader-exactly : (length0 length1 : ℕ) (group : Bool) (n : ℕ)
+    → Exactly (readerRefusal length0 length1 group n) Unit (readerCauses length0 length1 group n)
+reader-exactly length0 length1 group n = exactly (readerCauses length0 length1 group n) _ refl (reader-outcome length0 length1 group n)
 
 -- ---- The step
 
--- "11: raw over 1023, or fault latched": such a step is answered 11 and leaves the programming in force
-by-soundness : (b : Bool) (m : Module) (s : Sample) → sound (m .configuration) s ≡ b
-    → (stepCall m s .answer .refused ≡ not b) × (stepCall m s .card .configuration .programming ≡ m .configuration .programming)
-unfolding stepCall stepAnswer stepConfiguration answerOf
-by-soundness true m s e = (rw e, rw e)
-by-soundness false m s e = (rw e, rw e)
+-- the number that a step's answer carries, 0 if none
+abbrev pub stepNumber : Answer → ℕ
+stepNumber a = cond (a .refused) (numberOf Transducer) 0
 
-pub step-over-range : (m : Module) (s : Sample) → rawMost < s .raw
-    → (stepCall m s .answer .refused ≡ true) × (stepCall m s .card .configuration .programming ≡ m .configuration .programming)
+-- "11: raw over 1023, or fault latched"
+abbrev pub stepCauses : Module → Sample → List (Bool × ℕ)
+stepCauses m s = (ltb 1023 (s .raw) || m .configuration .fault, 11) ∷ []
+
+over-reads : (n : ℕ) → leb n 1023 ≡ not (ltb 1023 n)
+over-reads n = by (leb n 1023) (λ t. rw (t, le-ltb 1023 n (leb-true n 1023 t))) (λ f. rw (f, lt-ltb 1023 n (leb-false n 1023 f)))
+
+neither : (a b : Bool) → (not a && not b) ≡ not (a || b)
+neither true b = refl
+neither false b = refl
+
+pub sound-reads : (g : Configuration) (s : Sample) → sound g s ≡ not (ltb 1023 (s .raw) || g .fault)
 unfolding sound
-step-over-range m s h = by-soundness false m s (rw (lt-leb (s .raw) rawMost h))
+sound-reads g s = rw (over-reads (s .raw)) (neither (ltb 1023 (s .raw)) (g .fault))
 
-both-false : (b : Bool) → (b && false) ≡ false
-both-false true = refl
-both-false false = refl
+pub step-outcome : (m : Module) (s : Sample) → stepNumber (stepCall m s .answer) ≡ firstOf (stepCauses m s)
+unfolding stepCall stepAnswer answerOf numberOf
+step-outcome m s = rw (sound-reads (m .configuration) s, Bool·not-not (ltb 1023 (s .raw) || m .configuration .fault))
 
-pub step-in-fault : (m : Module) (s : Sample) → m .configuration .fault ≡ true
-    → (stepCall m s .answer .refused ≡ true) × (stepCall m s .card .configuration .programming ≡ m .configuration .programming)
-unfolding sound
-step-in-fault m s f = by-soundness false m s (rw f (both-false (leb (s .raw) rawMost)))
+pub step-exactly : (m : Module) (s : Sample) → Exactly (stepNumber (stepCall m s .answer)) Unit (stepCauses m s)
+step-exactly m s = exactly (stepCauses m s) _ refl (step-outcome m s)
 
--- a sound raw with no fault never is
-pub step-sound : (m : Module) (s : Sample) → s .raw ≤ rawMost → m .configuration .fault ≡ false
-    → (stepCall m s .answer .refused ≡ false) × (stepCall m s .card .configuration .programming ≡ m .configuration .programming)
-unfolding sound
-step-sound m s h f = by-soundness true m s (rw (le-leb (s .raw) rawMost h, f))
-
--- 11: "rpm, tach and TachOv 0; detectors .. off"
-divisor-some : (k : Scalars) (c : DecimalCode) → 0 < divisor k * 10 ^ codeNumber c
-divisor-some k Code0 = omega arith
-divisor-some k Code1 = omega arith
-divisor-some k Code2 = omega arith
-divisor-some k Code3 = omega arith
-
-no-tach : (k : Scalars) → tachValue k 0 ≡ 0
-unfolding tachValue roundHalfUp
-no-tach k = let h = divisor-some k (codeOf (k .code)) in div-eq-of-lt (omega arith)
-
-pub fault-shows : (m : Module) (s : Sample) → sound (m .configuration) s ≡ false
-    → (stepCall m s .answer .position ≡ m .state .kept .position) × (stepCall m s .answer .rpm ≡ 0) × (stepCall m s .answer .tach ≡ 0)
-    × (stepCall m s .answer .overflow ≡ false) × (stepCall m s .answer .md1 ≡ false) × (stepCall m s .answer .md2 ≡ false)
-unfolding stepCall stepAnswer answerOf faultConditions tachShown tachOverflow
-fault-shows m s e =
-    let z = no-tach (m .configuration .programming .setup .scalars) in
-    (rw e, rw e, rw (e, z), rw (e, z), rw e, rw e)
+pub step-11 : (m : Module) (s : Sample) → (stepNumber (stepCall m s .answer) ≡ 11) ↔ ((1023 < s .raw) ⊎ (m .configuration .fault ≡ true))
+step-11 m s =
+    (λ e. ⊎-elim (λ t. inl (ltb-true 1023 (s .raw) t)) (λ f. inr f) (either (ltb 1023 (s .raw)) (m .configuration .fault) (step-exactly m s .0 .0 e .1)),
+    ⊎-elim (λ h. step-outcome m s ∙ rw (lt-ltb 1023 (s .raw) h)) (λ f. step-outcome m s ∙ rw (f, or-true (ltb 1023 (s .raw)))))

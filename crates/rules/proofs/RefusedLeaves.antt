@@ -25,7 +25,7 @@ use Rattle.rules.specs.declared.Sample.{Sample}
 use Rattle.rules.specs.Words.{bit, storedAt}
 use Rattle.rules.specs.Cycle.{numberOf, outcomeNumber, acts, underway, cycle, idleCycle, turnedAway, ignoredCycle, refusedCycle, judged, stands}
 use Rattle.rules.specs.FileCycle.{fileLength, lengthRefusal, commandAt, statusAt, dataRefusal, barred, fileErrors, failing, command, clears, fileActs, fileCycle, statusWords, fileAfter}
-use Rattle.rules.specs.Nudge.{nudgeActs, nudgeCycle}
+use Rattle.rules.specs.Nudge.{nudgeOutputBad, nudgeActs, nudgeCycle}
 use Rattle.rules.specs.Card.{fileCall, fileLeft, nudgeCall}
 use Rattle.rules.proofs.Laws.{length-stored}
 use Rattle.rules.proofs.Past.{both, by}
@@ -160,3 +160,190 @@ unfolding fileCall fileCycle fileLeft fileAfter turnedAway
 file-length kind m file h =
     let f = ne-eqb (length file) (fileLength kind) (λ e. h (e ∙ sym (length-is kind))) in
     (rw f (sym (number-is kind)), rw f, rw f)
+
+-- ---- Refusals 5 to 10: what an acting cycle leaves
+
+abbrev pub none : Errors
+none = record { setup = false; group = false; limit = false; number = false; setpoint = false }
+
+-- the acknowledges with that of one cycle set or clear, the others as they were
+abbrev pub acknowledging : Cycle → Bool → Acknowledges → Acknowledges
+acknowledging (OfFile SetupCycle) b a = record { setup = b; group = a .group; limit = a .limit; nudge = a .nudge }
+acknowledging (OfFile GroupCycle) b a = record { setup = a .setup; group = b; limit = a .limit; nudge = a .nudge }
+acknowledging (OfFile LimitCycle) b a = record { setup = a .setup; group = a .group; limit = b; nudge = a .nudge }
+acknowledging NudgeCycle b a = record { setup = a .setup; group = a .group; limit = a .limit; nudge = b }
+
+-- a configuration and a module with these acknowledges, errors, MsgIgn and fault, all else as before
+abbrev pub leftConfiguration : Configuration → Acknowledges → Errors → Bool → Bool → Configuration
+leftConfiguration g acknowledges errors ignored fault =
+    record { model = g .model; programming = g .programming; errors = errors; acknowledges = acknowledges; ignored = ignored; fault = fault; raw = g .raw }
+
+abbrev pub leftModule : Module → Acknowledges → Errors → Bool → Bool → Module
+leftModule m acknowledges errors ignored fault = record { configuration = leftConfiguration (m .configuration) acknowledges errors ignored fault; state = m .state }
+
+-- a module after an acting cycle that was refused: its acknowledge is set
+abbrev pub refusedModule : Module → Cycle → Errors → Bool → Bool → Module
+refusedModule m c errors ignored fault = leftModule m (acknowledging c true (m .configuration .acknowledges)) errors ignored fault
+
+-- what the tests were where a cycle was refused with 5, and with its data's number
+ignored-tests : (kind : FileCycle) (m : Module) (file : List ℕ) → outcomeNumber (fileCall kind m file .outcome) ≡ 5
+    → (eqb (length file) (fileLength kind) ≡ true) × (acts (OfFile kind) (command kind file) (m .configuration) ≡ true) × (barred kind (actsOn kind m file) ≡ true)
+unfolding numberOf
+ignored-tests kind m file e =
+    let t = file-tested kind m file .1 .1 .0 .0 e in
+    (not-false _ (t .0 .0 .1), not-false _ (t .0 .1), t .1)
+
+data-tests : (kind : FileCycle) (m : Module) (file : List ℕ) → outcomeNumber (fileCall kind m file .outcome) ≡ dataNumber kind
+    → (eqb (length file) (fileLength kind) ≡ true) × (acts (OfFile kind) (command kind file) (m .configuration) ≡ true) × (barred kind (actsOn kind m file) ≡ false)
+    × (eqb (fileErrors kind (m .configuration) file) 0 ≡ false)
+data-tests kind m file e =
+    let t = file-tested kind m file .1 .1 .1 .0 .0 (e ∙ data-is kind) in
+    (not-false _ (t .0 .0 .0 .1), not-false _ (t .0 .0 .1), t .0 .1, not-true _ (t .1))
+
+-- the first status word, and in a group or limit cycle the second, too
+abbrev pub Status : FileCycle → ℕ → ℕ → List ℕ → Type 0
+Status SetupCycle a b file = getD file 100 0 ≡ a
+Status GroupCycle a b file = (getD file 110 0 ≡ a) × (getD file 111 0 ≡ b)
+Status LimitCycle a b file = (getD file 630 0 ≡ a) × (getD file 631 0 ≡ b)
+
+ignored-cycle : (kind : FileCycle) (m : Module) (file : List ℕ) → outcomeNumber (fileCall kind m file .outcome) ≡ 5
+    → fileCycle kind (m .configuration) file ≡ ignoredCycle (actsOn kind m file)
+unfolding fileCycle cycle fileActs judged
+ignored-cycle kind m file e = let t = ignored-tests kind m file e in rw (t .0, t .1, t .2)
+
+data-cycle : (kind : FileCycle) (m : Module) (file : List ℕ) → outcomeNumber (fileCall kind m file .outcome) ≡ dataNumber kind
+    → fileCycle kind (m .configuration) file ≡ refusedCycle (dataRefusal kind) (actsOn kind m file)
+unfolding fileCycle cycle fileActs judged
+data-cycle kind m file e =
+    let t = data-tests kind m file e in
+    rw (t .0, t .1, t .2, errors-underway kind (OfFile kind) (clears (command kind file)) (m .configuration) file, t .3)
+
+file-acted : (kind : FileCycle) (m : Module) (file : List ℕ) → eqb (length file) (fileLength kind) ≡ true → acts (OfFile kind) (command kind file) (m .configuration) ≡ true
+    → fileLeft kind m file ≡ storedAt (statusAt kind) (stored kind m file) file
+unfolding fileLeft fileAfter
+file-acted kind m file l a = rw (l, a)
+
+acted-status : (kind : FileCycle) (m : Module) (file : List ℕ) (i : Bool) → eqb (length file) (fileLength kind) ≡ true → acts (OfFile kind) (command kind file) (m .configuration) ≡ true
+    → fileCycle kind (m .configuration) file .configuration .ignored ≡ i
+    → Status kind (cond i 0x4000 (fileErrors kind (m .configuration) file)) (cond i 0 (failing kind (m .configuration) file)) (fileLeft kind m file)
+unfolding statusAt statusWords fileLength
+acted-status SetupCycle m file i l a e =
+    let n : length file ≡ 120 = eqb-true (length file) 120 l in
+    rw (file-acted SetupCycle m file l a, e) (stored-first 100 _ _ file (omega arith))
+acted-status GroupCycle m file i l a e =
+    let n : length file ≡ 120 = eqb-true (length file) 120 l in
+    rw (file-acted GroupCycle m file l a, e) (stored-first 110 _ _ file (omega arith), stored-second 110 _ _ _ file (omega arith))
+acted-status LimitCycle m file i l a e =
+    let n : length file ≡ 650 = eqb-true (length file) 650 l in
+    rw (file-acted LimitCycle m file l a, e) (stored-first 630 _ _ file (omega arith), stored-second 630 _ _ _ file (omega arith))
+
+-- 5: "Sets MsgIgn, itself no error", and no error, after ClrErr dropped all errors and the fault; "the status word has bit 14 only"
+ignored-leaves : (kind : FileCycle) (m : Module) (file : List ℕ) → fileCycle kind (m .configuration) file ≡ ignoredCycle (actsOn kind m file)
+    → fileCall kind m file .card
+    ≡ refusedModule m (OfFile kind) (cond (bit (commandOf kind file) 0) none (m .configuration .errors)) true (not (bit (commandOf kind file) 0) && m .configuration .fault)
+unfolding fileCall ignoredCycle underway commandAt
+ignored-leaves SetupCycle m file e = rw e
+ignored-leaves GroupCycle m file e = rw e
+ignored-leaves LimitCycle m file e = rw e
+
+pub file-ignored : (kind : FileCycle) (m : Module) (file : List ℕ) → outcomeNumber (fileCall kind m file .outcome) ≡ 5
+    → (fileCall kind m file .card
+    ≡ refusedModule m (OfFile kind) (cond (bit (commandOf kind file) 0) none (m .configuration .errors)) true (not (bit (commandOf kind file) 0) && m .configuration .fault))
+    × Status kind 0x4000 0 (fileLeft kind m file)
+unfolding ignoredCycle
+file-ignored kind m file e =
+    let t = ignored-tests kind m file e in
+    let c = ignored-cycle kind m file e in
+    (ignored-leaves kind m file c, acted-status kind m file true (t .0) (t .1) (rw c))
+
+-- 6, 7, 8: "6 to 10 set their error", and no other stands, for 5 would have come first
+abbrev pub ownError : FileCycle → Errors
+ownError SetupCycle = record { setup = true; group = false; limit = false; number = false; setpoint = false }
+ownError GroupCycle = record { setup = false; group = true; limit = false; number = false; setpoint = false }
+ownError LimitCycle = record { setup = false; group = false; limit = true; number = false; setpoint = false }
+
+none-stands : (e : Errors) → anyError e ≡ false → e ≡ none
+none-stands e = go (e .setup) (e .group) (e .limit) (e .number) (e .setpoint)
+  where
+    go : (a b c d f : Bool) → (a || b || c || d || f) ≡ false → _≡_ {A = Errors} (record { setup = a; group = b; limit = c; number = d; setpoint = f }) none
+    go true b c d f h = absurd (true≢false h)
+    go false true c d f h = absurd (true≢false h)
+    go false false true d f h = absurd (true≢false h)
+    go false false false true f h = absurd (true≢false h)
+    go false false false false true h = absurd (true≢false h)
+    go false false false false false h = refl
+
+barred-stands : (kind : FileCycle) (g : Configuration) → barred kind g ≡ false → g .errors ≡ none
+unfolding barred stands
+barred-stands SetupCycle g h = none-stands (g .errors) h
+barred-stands GroupCycle g h = none-stands (g .errors) (go (anyError (g .errors)) h)
+  where
+    go : (b : Bool) → (b || g .programming .setup .independent) ≡ false → b ≡ false
+    go true q = absurd (true≢false q)
+    go false q = refl
+barred-stands LimitCycle g h = none-stands (g .errors) h
+
+data-leaves : (kind : FileCycle) (m : Module) (file : List ℕ) → fileCycle kind (m .configuration) file ≡ refusedCycle (dataRefusal kind) (actsOn kind m file)
+    → actsOn kind m file .errors ≡ none
+    → fileCall kind m file .card ≡ refusedModule m (OfFile kind) (ownError kind) false (not (bit (commandOf kind file) 0) && m .configuration .fault)
+unfolding fileCall refusedCycle dataRefusal underway commandAt
+data-leaves SetupCycle m file e s = rw (e, s)
+data-leaves GroupCycle m file e s = rw (e, s)
+data-leaves LimitCycle m file e s = rw (e, s)
+
+pub file-data : (kind : FileCycle) (m : Module) (file : List ℕ) → outcomeNumber (fileCall kind m file .outcome) ≡ dataNumber kind
+    → (fileCall kind m file .card ≡ refusedModule m (OfFile kind) (ownError kind) false (not (bit (commandOf kind file) 0) && m .configuration .fault))
+    × Status kind (fileErrors kind (m .configuration) file) (failing kind (m .configuration) file) (fileLeft kind m file)
+unfolding refusedCycle underway
+file-data kind m file e =
+    let t = data-tests kind m file e in
+    let c = data-cycle kind m file e in
+    (data-leaves kind m file c (barred-stands kind (actsOn kind m file) (t .2)), acted-status kind m file false (t .0) (t .1) (rw c))
+
+-- the nudge's 5, 9 and 10: bit 14 is clear, so the fault and, on 5, the errors are as before
+acting : (t a : Bool) → (not t || a) ≡ false → (t && not a) ≡ true
+acting true true h = absurd (true≢false h)
+acting true false h = refl
+acting false a h = absurd (true≢false h)
+
+other : (c b : Bool) → c ≡ false → (not c && b) ≡ false → b ≡ false
+other c b e h = rw e at h
+
+nudge-acts : (m : Module) (w : ℕ) → (not (bit w 15) || m .configuration .acknowledges .nudge) ≡ false → acts NudgeCycle w (m .configuration) ≡ true
+unfolding acts
+nudge-acts m w h = acting (bit w 15) (m .configuration .acknowledges .nudge) h
+
+nudge-stands : (m : Module) (b : Bool) → anyError (m .configuration .errors) ≡ b → stands (m .configuration .errors) ≡ b
+unfolding stands
+nudge-stands m b h = h
+
+pub nudge-ignored : (m : Module) (w : ℕ) → outcomeNumber (nudgeCall m w .outcome) ≡ 5
+    → nudgeCall m w .card ≡ refusedModule m NudgeCycle (m .configuration .errors) true (m .configuration .fault)
+unfolding nudgeCall nudgeCycle cycle nudgeActs underway ignoredCycle
+nudge-ignored m w e =
+    let t = nudge-exactly m w .1 .0 .0 e in
+    let p = both (not (bit w 14)) (anyError (m .configuration .errors)) (t .1) in
+    rw (nudge-acts m w (t .0 .1), not-true (bit w 14) (p .0), nudge-stands m true (p .1))
+
+pub nudge-output : (m : Module) (w : ℕ) → outcomeNumber (nudgeCall m w .outcome) ≡ 9
+    → nudgeCall m w .card
+    ≡ refusedModule m NudgeCycle (record { setup = false; group = false; limit = false; number = true; setpoint = false }) false (m .configuration .fault)
+unfolding nudgeCall nudgeCycle cycle nudgeActs underway refusedCycle
+nudge-output m w e =
+    let t = nudge-exactly m w .1 .1 .0 .0 e in
+    let p = both (not (bit w 14)) (nudgeOutputBad (m .configuration .programming) w) (t .1) in
+    let c = not-true (bit w 14) (p .0) in
+    let s = other (bit w 14) (anyError (m .configuration .errors)) c (t .0 .1) in
+    rw (nudge-acts m w (t .0 .0 .1), c, nudge-stands m false s, p .1, none-stands (m .configuration .errors) s)
+
+pub nudge-setpoint : (m : Module) (w : ℕ) → outcomeNumber (nudgeCall m w .outcome) ≡ 10
+    → nudgeCall m w .card
+    ≡ refusedModule m NudgeCycle (record { setup = false; group = false; limit = false; number = false; setpoint = true }) false (m .configuration .fault)
+unfolding nudgeCall nudgeCycle cycle nudgeActs underway refusedCycle
+nudge-setpoint m w e =
+    let t = nudge-exactly m w .1 .1 .1 .0 .0 e in
+    let p = both (not (bit w 14)) _ (t .1) in
+    let c = not-true (bit w 14) (p .0) in
+    let s = other (bit w 14) (anyError (m .configuration .errors)) c (t .0 .0 .1) in
+    let b = other (bit w 14) (nudgeOutputBad (m .configuration .programming) w) c (t .0 .1) in
+    rw (nudge-acts m w (t .0 .0 .0 .1), c, nudge-stands m false s, b, p .1, none-stands (m .configuration .errors) s)

@@ -3,6 +3,7 @@
 use Prim.Native.Nat.{ℕ, _+_, _-_, _*_, _^_, _<_, _≤_}
 use mathlib.Core.Bool.{Bool, true, false, cond, not, _&&_, _||_, true≢false, false≢true}
 use mathlib.Core.List.{List, [], _∷_}
+use mathlib.Core.Logic.{_⊎_, ⊎-elim}
 use mathlib.Core.Path.{_≡_, refl, sym, ap, _∙_}
 use native.Mathlib.Omega.{arith}
 use native.Mathlib.Nat.{div-eq-of-lt}
@@ -347,3 +348,72 @@ nudge-setpoint m w e =
     let s = other (bit w 14) (anyError (m .configuration .errors)) c (t .0 .0 .1) in
     let b = other (bit w 14) (nudgeOutputBad (m .configuration .programming) w) c (t .0 .1) in
     rw (nudge-acts m w (t .0 .0 .0 .1), c, nudge-stands m false s, b, p .1, none-stands (m .configuration .errors) s)
+
+-- ---- An error that stands: "5 comes first"
+
+-- the acknowledge of a cycle
+abbrev pub acknowledgeOf : Cycle → Acknowledges → Bool
+acknowledgeOf (OfFile SetupCycle) a = a .setup
+acknowledgeOf (OfFile GroupCycle) a = a .group
+acknowledgeOf (OfFile LimitCycle) a = a .limit
+acknowledgeOf NudgeCycle a = a .nudge
+
+-- every acting cycle that does not drop errors, of any kind, is answered 5
+abbrev pub Answers5 : Module → Type 0
+Answers5 m =
+    ((kind : FileCycle) (file : List ℕ) → length file ≡ lengthOf kind → bit (commandOf kind file) 15 ≡ true → bit (commandOf kind file) 0 ≡ false
+    → acknowledgeOf (OfFile kind) (m .configuration .acknowledges) ≡ false → outcomeNumber (fileCall kind m file .outcome) ≡ 5)
+    × ((w : ℕ) → bit w 15 ≡ true → bit w 14 ≡ false → acknowledgeOf NudgeCycle (m .configuration .acknowledges) ≡ false → outcomeNumber (nudgeCall m w .outcome) ≡ 5)
+
+pub error-then-5 : (m : Module) → anyError (m .configuration .errors) ≡ true → Answers5 m
+error-then-5 m s = (of-file, λ w t c a. nudge-outcome m w ∙ rw (t, c, a, s))
+  where
+    of-file : (kind : FileCycle) (file : List ℕ) → length file ≡ lengthOf kind → bit (commandOf kind file) 15 ≡ true → bit (commandOf kind file) 0 ≡ false
+        → acknowledgeOf (OfFile kind) (m .configuration .acknowledges) ≡ false → outcomeNumber (fileCall kind m file .outcome) ≡ 5
+    of-file SetupCycle file l t c a = setup-outcome m file ∙ rw (eq-eqb (length file) 120 l, t, c, a, s)
+    of-file GroupCycle file l t c a = group-outcome m file ∙ rw (eq-eqb (length file) 120 l, t, c, a, s)
+    of-file LimitCycle file l t c a = limit-outcome m file ∙ rw (eq-eqb (length file) 650 l, t, c, a, s)
+
+-- so after 6, 7 and 8, and after 9 and 10
+pub data-then-5 : (kind : FileCycle) (m : Module) (file : List ℕ) → outcomeNumber (fileCall kind m file .outcome) ≡ dataNumber kind → Answers5 (fileCall kind m file .card)
+data-then-5 kind m file e = error-then-5 (fileCall kind m file .card) (rw (file-data kind m file e .0) (own kind))
+  where
+    own : (kind : FileCycle) → anyError (ownError kind) ≡ true
+    own SetupCycle = refl
+    own GroupCycle = refl
+    own LimitCycle = refl
+
+pub nudge-then-5 : (m : Module) (w : ℕ) → (outcomeNumber (nudgeCall m w .outcome) ≡ 9) ⊎ (outcomeNumber (nudgeCall m w .outcome) ≡ 10) → Answers5 (nudgeCall m w .card)
+nudge-then-5 m w e =
+    error-then-5 (nudgeCall m w .card) (⊎-elim (λ n. rw (nudge-output m w n)) (λ n. rw (nudge-setpoint m w n)) e)
+
+-- ---- Idle
+
+-- "Bit set with acknowledge set: nothing." "Both answer Idle and write nothing."
+pub file-held : (kind : FileCycle) (m : Module) (file : List ℕ) → length file ≡ lengthOf kind → bit (commandOf kind file) 15 ≡ true
+    → acknowledgeOf (OfFile kind) (m .configuration .acknowledges) ≡ true
+    → (fileCall kind m file ≡ record { card = m; outcome = Idle }) × (fileLeft kind m file ≡ file)
+unfolding fileCall fileCycle cycle acts idleCycle fileLeft fileAfter fileLength commandAt
+file-held SetupCycle m file l t a = (rw (eq-eqb (length file) 120 l, t, a), rw (eq-eqb (length file) 120 l, t, a))
+file-held GroupCycle m file l t a = (rw (eq-eqb (length file) 120 l, t, a), rw (eq-eqb (length file) 120 l, t, a))
+file-held LimitCycle m file l t a = (rw (eq-eqb (length file) 650 l, t, a), rw (eq-eqb (length file) 650 l, t, a))
+
+pub nudge-held : (m : Module) (w : ℕ) → bit w 15 ≡ true → m .configuration .acknowledges .nudge ≡ true → nudgeCall m w ≡ record { card = m; outcome = Idle }
+unfolding nudgeCall nudgeCycle cycle acts idleCycle
+nudge-held m w t a = rw (t, a)
+
+-- "Bit clear: acknowledge clears.", and nothing else
+abbrev pub released : Module → Cycle → Module
+released m c =
+    leftModule m (acknowledging c false (m .configuration .acknowledges)) (m .configuration .errors) (m .configuration .ignored) (m .configuration .fault)
+
+pub file-released : (kind : FileCycle) (m : Module) (file : List ℕ) → length file ≡ lengthOf kind → bit (commandOf kind file) 15 ≡ false
+    → (fileCall kind m file ≡ record { card = released m (OfFile kind); outcome = Idle }) × (fileLeft kind m file ≡ file)
+unfolding fileCall fileCycle cycle acts idleCycle fileLeft fileAfter fileLength commandAt
+file-released SetupCycle m file l t = (rw (eq-eqb (length file) 120 l, t), rw (eq-eqb (length file) 120 l, t))
+file-released GroupCycle m file l t = (rw (eq-eqb (length file) 120 l, t), rw (eq-eqb (length file) 120 l, t))
+file-released LimitCycle m file l t = (rw (eq-eqb (length file) 650 l, t), rw (eq-eqb (length file) 650 l, t))
+
+pub nudge-released : (m : Module) (w : ℕ) → bit w 15 ≡ false → nudgeCall m w ≡ record { card = released m NudgeCycle; outcome = Idle }
+unfolding nudgeCall nudgeCycle cycle acts idleCycle
+nudge-released m w t = rw t

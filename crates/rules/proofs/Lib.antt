@@ -16,8 +16,10 @@ pub mod Cases
 pub mod Reading
 pub mod Brought
 pub mod Sentences
+pub mod Causes
 pub mod Refusals
 pub mod RefusedLeaves
+pub mod Faults
 pub mod Reachable
 pub mod Reports
 pub mod Runs

@@ -37,62 +37,7 @@ use Rattle.rules.specs.Reader.{readerRefusal}
 use Rattle.rules.specs.Calls.{sound}
 use Rattle.rules.specs.Card.{freshModule, poweredUp, fileCall, nudgeCall, stepAnswer, stepCall}
 use Rattle.rules.proofs.Cycles.{errors-underway}
-use Rattle.rules.proofs.Past.{both, either, by}
-
--- ---- Causes in order
-
--- the number of the first cause that holds; 0, accepted, where none does
-abbrev pub firstOf : List (Bool × ℕ) → ℕ
-firstOf [] = 0
-firstOf (c ∷ cs) = cond (c .0) (c .1) (firstOf cs)
-
--- a number is a cause's exactly where that cause holds and none before it does, and 0 exactly where none holds; `Before` says that none before these holds
-abbrev pub Exactly : ℕ → Type 0 → List (Bool × ℕ) → Type 0
-Exactly o Before [] = (o ≡ 0) ↔ Before
-Exactly o Before (c ∷ cs) = ((o ≡ c .1) ↔ (Before × (c .0 ≡ true))) × Exactly o (Before × (c .0 ≡ false)) cs
-
--- a number is no cause's and not 0; no two causes have one number, and none has 0
-abbrev pub apart : ℕ → List (Bool × ℕ) → Bool
-apart n [] = not (eqb n 0)
-apart n (c ∷ cs) = not (eqb n (c .1)) && apart n cs
-
-abbrev pub distinct : List (Bool × ℕ) → Bool
-distinct [] = true
-distinct (c ∷ cs) = apart (c .1) cs && distinct cs
-
-differs : (a b : ℕ) → not (eqb a b) ≡ true → a ≡ b → ⊥
-differs a b h = eqb-false a b (not-true (eqb a b) h)
-
--- a number that is none of these; the first of these and the others
-split-apart : (n : ℕ) (c : Bool × ℕ) (cs : List (Bool × ℕ)) → apart n (c ∷ cs) ≡ true → (n ≡ c .1 → ⊥) × (apart n cs ≡ true)
-split-apart n c cs h = let p = both (not (eqb n (c .1))) (apart n cs) h in (differs n (c .1) (p .0), p .1)
-
-not-first : (n : ℕ) (cs : List (Bool × ℕ)) → apart n cs ≡ true → n ≡ firstOf cs → ⊥
-not-first n [] h = differs n 0 h
-not-first n (c ∷ cs) h = go (c .0) (not-first n cs (split-apart n c cs h .1))
-  where
-    go : (b : Bool) → (n ≡ firstOf cs → ⊥) → n ≡ cond b (c .1) (firstOf cs) → ⊥
-    go true k = split-apart n c cs h .0
-    go false k = k
-
-none-left : (cs : List (Bool × ℕ)) (o : ℕ) (Before : Type 0) → (Before → ⊥) → apart o cs ≡ true → Exactly o Before cs
-none-left [] o Before never h = (λ e. absurd (differs o 0 h e), λ b. absurd (never b))
-none-left (c ∷ cs) o Before never h =
-    let p = split-apart o c cs h in
-    ((λ e. absurd (p .0 e), λ b. absurd (never (b .0))), none-left cs o (Before × (c .0 ≡ false)) (λ b. never (b .0)) (p .1))
-
-from-here : (cs : List (Bool × ℕ)) (Before : Type 0) → Before → distinct cs ≡ true → Exactly (firstOf cs) Before cs
-from-here [] Before b d = (λ _. b, λ _. refl)
-from-here (c ∷ cs) Before b d = go (c .0) (both (apart (c .1) cs) (distinct cs) d) (from-here cs)
-  where
-    go : (q : Bool) → (apart (c .1) cs ≡ true) × (distinct cs ≡ true) → ((X : Type 0) → X → distinct cs ≡ true → Exactly (firstOf cs) X cs)
-        → Exactly (cond q (c .1) (firstOf cs)) Before ((q, c .1) ∷ cs)
-    go true p k = ((λ _. (b, refl), λ _. refl), none-left cs (c .1) (Before × (true ≡ false)) (λ x. true≢false (x .1)) (p .0))
-    go false p k =
-        ((λ e. absurd (not-first (c .1) cs (p .0) (sym e)), λ x. absurd (false≢true (x .1))), k (Before × (false ≡ false)) (b, refl) (p .1))
-
-pub exactly : (cs : List (Bool × ℕ)) (o : ℕ) → distinct cs ≡ true → o ≡ firstOf cs → Exactly o Unit cs
-exactly cs o d e = rw e (from-here cs Unit tt d)
+use Rattle.rules.proofs.Causes.{firstOf, Exactly, exactly}
 
 -- ---- Cycles that take a file
 
@@ -301,36 +246,3 @@ reader-outcome length0 length1 group n = refl
 pub reader-exactly : (length0 length1 : ℕ) (group : Bool) (n : ℕ)
     → Exactly (readerRefusal length0 length1 group n) Unit (readerCauses length0 length1 group n)
 reader-exactly length0 length1 group n = exactly (readerCauses length0 length1 group n) _ refl (reader-outcome length0 length1 group n)
-
--- ---- The step
-
--- the number that a step's answer carries, 0 if none
-abbrev pub stepNumber : Answer → ℕ
-stepNumber a = cond (a .refused) (numberOf Transducer) 0
-
--- "11: raw over 1023, or fault latched"
-abbrev pub stepCauses : Module → Sample → List (Bool × ℕ)
-stepCauses m s = (ltb 1023 (s .raw) || m .configuration .fault, 11) ∷ []
-
-over-reads : (n : ℕ) → leb n 1023 ≡ not (ltb 1023 n)
-over-reads n = by (leb n 1023) (λ t. rw (t, le-ltb 1023 n (leb-true n 1023 t))) (λ f. rw (f, lt-ltb 1023 n (leb-false n 1023 f)))
-
-neither : (a b : Bool) → (not a && not b) ≡ not (a || b)
-neither true b = refl
-neither false b = refl
-
-pub sound-reads : (g : Configuration) (s : Sample) → sound g s ≡ not (ltb 1023 (s .raw) || g .fault)
-unfolding sound
-sound-reads g s = rw (over-reads (s .raw)) (neither (ltb 1023 (s .raw)) (g .fault))
-
-pub step-outcome : (m : Module) (s : Sample) → stepNumber (stepCall m s .answer) ≡ firstOf (stepCauses m s)
-unfolding stepCall stepAnswer answerOf numberOf
-step-outcome m s = rw (sound-reads (m .configuration) s, Bool·not-not (ltb 1023 (s .raw) || m .configuration .fault))
-
-pub step-exactly : (m : Module) (s : Sample) → Exactly (stepNumber (stepCall m s .answer)) Unit (stepCauses m s)
-step-exactly m s = exactly (stepCauses m s) _ refl (step-outcome m s)
-
-pub step-11 : (m : Module) (s : Sample) → (stepNumber (stepCall m s .answer) ≡ 11) ↔ ((1023 < s .raw) ⊎ (m .configuration .fault ≡ true))
-step-11 m s =
-    (λ e. ⊎-elim (λ t. inl (ltb-true 1023 (s .raw) t)) (λ f. inr f) (either (ltb 1023 (s .raw)) (m .configuration .fault) (step-exactly m s .0 .0 e .1)),
-    ⊎-elim (λ h. step-outcome m s ∙ rw (lt-ltb 1023 (s .raw) h)) (λ f. step-outcome m s ∙ rw (f, or-true (ltb 1023 (s .raw)))))

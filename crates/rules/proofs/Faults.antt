@@ -1,5 +1,5 @@
 -- Demand 1 of the step, for every module and sample: 11 comes exactly where 01 lists it, and what such a step reports and leaves. Assumes nothing.
-use Prim.Native.Nat.{ℕ, _*_, _^_, _<_}
+use Prim.Native.Nat.{ℕ, _+_, _-_, _*_, _^_, _<_}
 use mathlib.Core.Bool.{Bool, true, false, cond, not, _&&_, _||_, true≢false, or-true, Bool·not-not}
 use mathlib.Core.List.{List, [], _∷_}
 use mathlib.Core.Logic.{_↔_, _⊎_, ⊎-elim, inl, inr}
@@ -8,6 +8,7 @@ use native.Mathlib.Omega.{arith}
 use native.Mathlib.Nat.{div-eq-of-lt}
 use borrow.Author.Tests.{ltb-true, leb-true, leb-false, lt-ltb, le-ltb}
 use lib.Dec.{ltb, leb}
+use Rattle.rules.specs.declared.Model.{Model}
 use Rattle.rules.specs.declared.DecimalCode.{DecimalCode}
 use Rattle.rules.specs.declared.DecimalCode.the-variants.{Code0, Code1, Code2, Code3}
 use Rattle.rules.specs.declared.Scalars.{Scalars}
@@ -17,13 +18,14 @@ use Rattle.rules.specs.declared.Module.{Module}
 use Rattle.rules.specs.declared.Sample.{Sample}
 use Rattle.rules.specs.declared.Answer.{Answer}
 use Rattle.rules.specs.declared.OutputWords.{OutputWords}
-use Rattle.rules.specs.Words.{roundHalfUp}
+use Rattle.rules.specs.Words.{bit, roundHalfUp}
 use Rattle.rules.specs.Variants.{modelIn, codeOf, codeNumber}
 use Rattle.rules.specs.Motion.{divisor, tachValue, tachShown, tachOverflow, faultConditions}
-use Rattle.rules.specs.Switches.{changedCount, outputWords, answerOf}
+use Rattle.rules.specs.Switches.{present, forcedOff, forcedOn, outputOn, changedCount, outputWords, answerOf}
 use Rattle.rules.specs.Cycle.{numberOf}
 use Rattle.rules.specs.Calls.{sound, stepConfiguration}
 use Rattle.rules.specs.Card.{moduleStart, outputsNow, sinceNow, keptNow, stepState, stepAnswer, stepCall}
+use Rattle.rules.proofs.Packing.{packed-bit}
 use Rattle.rules.proofs.Past.{either, by}
 use Rattle.rules.proofs.Causes.{firstOf, Exactly, exactly}
 
@@ -99,6 +101,27 @@ pub fault-shows : (m : Module) (s : Sample) → stepNumber (stepCall m s .answer
     }
 unfolding stepCall stepAnswer answerOf outputsNow faultConditions tachShown tachOverflow
 fault-shows m s e = rw (unsound m s e, no-tach (m .configuration .programming .setup .scalars))
+
+-- so each output that is not forced on is off
+unforced : (model : Model) (s : Sample) (n : ℕ) → forcedOn s n ≡ false → outputOn model s (λ k. false) n ≡ false
+unfolding outputOn
+unforced model s n o = rw o (go (present model n) (not (forcedOff s n)))
+  where
+    go : (a b : Bool) → (a && (b && false)) ≡ false
+    go true true = refl
+    go true false = refl
+    go false b = refl
+
+pub fault-dark : (m : Module) (s : Sample) (n : ℕ) → stepNumber (stepCall m s .answer) ≡ 11 → n < 16
+    → (bit (s .realon) n ≡ false → bit (stepCall m s .answer .real) n ≡ false) × (bit (s .virtualon) n ≡ false → bit (stepCall m s .answer .virtuals) n ≡ false)
+unfolding outputWords
+fault-dark m s n e h =
+    let z : 0 + n ≡ n = omega arith in
+    let y : 16 + n - 16 ≡ n = omega arith in
+    let model = modelIn (m .configuration) in
+    rw (fault-shows m s e)
+    (λ o. packed-bit 16 0 n (outputOn model s (λ k. false)) h ∙ unforced model s (0 + n) (rw (z, lt-ltb n 16 h) o),
+    λ o. packed-bit 16 16 n (outputOn model s (λ k. false)) h ∙ unforced model s (16 + n) (rw (le-ltb (16 + n) 16 (omega arith), y) o))
 
 -- "Latches": programming, errors, acknowledges, MsgIgn and the raw of before stay; it is a module start
 pub fault-leaves : (m : Module) (s : Sample) → stepNumber (stepCall m s .answer) ≡ 11

@@ -6,8 +6,9 @@ use mathlib.Core.List.{List, [], _∷_}
 use mathlib.Core.Logic.{_↔_, _⊎_, ⊎-elim, inl, inr}
 use mathlib.Core.Path.{_≡_, refl, sym, _∙_}
 use native.Mathlib.Omega.{arith}
-use borrow.Author.Tests.{eqb-false, ltb-true, leb-true, leb-false, lt-ltb, le-ltb, ne-eqb, not-true}
-use lib.ListN.{length, getD}
+use borrow.Author.Tests.{eqb-true, eqb-false, ltb-false, eq-eqb, ne-eqb, not-false}
+use lib.ListN.{length, getD, take, drop, length-take, length-drop}
+use lib.Seq.{getD-take, getD-drop}
 use lib.Dec.{eqb, ltb, leb}
 use Rattle.rules.specs.declared.Model.the-variants.{M8511, M8512, M8513}
 use Rattle.rules.specs.declared.Errors.{Errors}
@@ -33,7 +34,7 @@ use Rattle.rules.specs.GroupWords.{groupErrors}
 use Rattle.rules.specs.LimitWords.{limitErrors}
 use Rattle.rules.specs.FileCycle.{fileLength, lengthRefusal, commandAt, dataRefusal, barred, fileErrors, brought, command, clears, fileActs, fileCycle}
 use Rattle.rules.specs.Nudge.{nudgeOutputBad, nudgeSetpointBad, nudgedProgramming, nudgeActs, nudgeCycle}
-use Rattle.rules.specs.Reader.{readerRefusal}
+use Rattle.rules.specs.Reader.{readerRefusal, readerPart}
 use Rattle.rules.specs.Calls.{sound}
 use Rattle.rules.specs.Card.{freshModule, poweredUp, fileCall, nudgeCall, stepAnswer, stepCall}
 use Rattle.rules.proofs.Cycles.{errors-underway}
@@ -246,3 +247,39 @@ reader-outcome length0 length1 group n = refl
 pub reader-exactly : (length0 length1 : ℕ) (group : Bool) (n : ℕ)
     → Exactly (readerRefusal length0 length1 group n) Unit (readerCauses length0 length1 group n)
 reader-exactly length0 length1 group n = exactly (readerCauses length0 length1 group n) _ refl (reader-outcome length0 length1 group n)
+
+neither-two : (a b : Bool) → (a || b) ≡ false → (a ≡ false) × (b ≡ false)
+neither-two true b h = absurd (true≢false h)
+neither-two false b h = (refl, h)
+
+-- "on 1, 2 and 4 the part is empty"
+pub reader-empty : (m0 m1 : List ℕ) (group : Bool) (n : ℕ) → (readerRefusal (length m0) (length m1) group n ≡ 0 → ⊥) → readerPart m0 m1 group n ≡ []
+unfolding readerPart
+reader-empty m0 m1 group n h = rw (ne-eqb (readerRefusal (length m0) (length m1) group n) 0 h)
+
+-- some words of a list, from a place on
+part-of : (size from : ℕ) (l : List ℕ) → from + size ≤ length l
+    → (length (take size (drop from l)) ≡ size) × ((k : ℕ) → k < size → getD (take size (drop from l)) k 0 ≡ getD l (from + k) 0)
+part-of size from l h = (simp (length-take, length-drop) (omega arith), λ k b. rw (getD-take, getD-drop))
+
+-- "hands back the group's 4 words of M0", block n "at word 18 + 4 × n"
+pub reader-group : (m0 m1 : List ℕ) (n : ℕ) → readerRefusal (length m0) (length m1) true n ≡ 0
+    → (length (readerPart m0 m1 true n) ≡ 4) × ((k : ℕ) → k < 4 → getD (readerPart m0 m1 true n) k 0 ≡ getD m0 (18 + 4 * n + k) 0)
+unfolding readerPart
+reader-group m0 m1 n e =
+    let t = reader-exactly (length m0) (length m1) true n .1 .1 .1 .0 e in
+    let a = eqb-true (length m0) 120 (not-false _ (t .0 .0 .1)) in
+    let b = ltb-false 6 n (neither-two (eqb n 0) (ltb 6 n) (t .1) .1) in
+    rw (eq-eqb (readerRefusal (length m0) (length m1) true n) 0 e) (part-of 4 (18 + 4 * n) m0 (omega arith))
+
+-- "or the output's 19 of M1", block n "at word 19 × n − 17"
+pub reader-output : (m0 m1 : List ℕ) (n : ℕ) → readerRefusal (length m0) (length m1) false n ≡ 0
+    → (length (readerPart m0 m1 false n) ≡ 19) × ((k : ℕ) → k < 19 → getD (readerPart m0 m1 false n) k 0 ≡ getD m1 (19 * n - 17 + k) 0)
+unfolding readerPart
+reader-output m0 m1 n e =
+    let t = reader-exactly (length m0) (length m1) false n .1 .1 .1 .0 e in
+    let a = eqb-true (length m1) 650 (not-false _ (t .0 .1)) in
+    let p = neither-two (eqb n 0) (ltb 32 n) (t .1) in
+    let z = eqb-false n 0 (p .0) in
+    let b = ltb-false 32 n (p .1) in
+    rw (eq-eqb (readerRefusal (length m0) (length m1) false n) 0 e) (part-of 19 (19 * n - 17) m1 (omega arith))

@@ -62,9 +62,10 @@ pub step-exactly : (m : Module) (s : Sample) → Exactly (stepNumber (stepCall m
 step-exactly m s = exactly (stepCauses m s) _ refl (step-outcome m s)
 
 pub step-11 : (m : Module) (s : Sample) → (stepNumber (stepCall m s .answer) ≡ 11) ↔ ((1023 < s .raw) ⊎ (m .configuration .fault ≡ true))
-step-11 m s =
-    (λ e. ⊎-elim (λ t. inl (ltb-true 1023 (s .raw) t)) (λ f. inr f) (either (ltb 1023 (s .raw)) (m .configuration .fault) (step-exactly m s .0 .0 e .1)),
-    ⊎-elim (λ h. step-outcome m s ∙ rw (lt-ltb 1023 (s .raw) h)) (λ f. step-outcome m s ∙ rw (f, or-true (ltb 1023 (s .raw)))))
+step-11 m s = (
+  λ e. ⊎-elim (λ t. inl (ltb-true 1023 (s .raw) t)) (λ f. inr f) (either (ltb 1023 (s .raw)) (m .configuration .fault) (step-exactly m s .0 .0 e .1)),
+  ⊎-elim (λ h. step-outcome m s ∙ rw (lt-ltb 1023 (s .raw) h)) (λ f. step-outcome m s ∙ rw (f, or-true (ltb 1023 (s .raw)))),
+)
 
 -- ---- What a step answered 11 reports and leaves
 
@@ -119,9 +120,10 @@ fault-dark m s n e h =
     let z : 0 + n ≡ n = omega arith in
     let y : 16 + n - 16 ≡ n = omega arith in
     let model = modelIn (m .configuration) in
-    rw (fault-shows m s e)
-    (λ o. packed-bit 16 0 n (outputOn model s (λ k. false)) h ∙ unforced model s (0 + n) (rw (z, lt-ltb n 16 h) o),
-    λ o. packed-bit 16 16 n (outputOn model s (λ k. false)) h ∙ unforced model s (16 + n) (rw (le-ltb (16 + n) 16 (omega arith), y) o))
+    rw (fault-shows m s e) (
+      λ o. packed-bit 16 0 n (outputOn model s (λ k. false)) h ∙ unforced model s (0 + n) (rw (z, lt-ltb n 16 h) o),
+      λ o. packed-bit 16 16 n (outputOn model s (λ k. false)) h ∙ unforced model s (16 + n) (rw (le-ltb (16 + n) 16 (omega arith), y) o),
+    )
 
 -- "Latches": programming, errors, acknowledges, MsgIgn and the raw of before stay; it is a module start
 pub fault-leaves : (m : Module) (s : Sample) → stepNumber (stepCall m s .answer) ≡ 11

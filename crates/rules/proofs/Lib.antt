@@ -18,6 +18,7 @@ pub mod Brought
 pub mod Sentences
 pub mod Causes
 pub mod Refusals
+pub mod FilesLeft
 pub mod RefusedLeaves
 pub mod Faults
 pub mod Reachable

@@ -1,33 +1,28 @@
 -- Demand 1, the outcomes, over the definitions that the contracts cite, for every module, file, word and sample: each call's causes of refusal in 01's order,
 -- with their numbers and places written out, and each number comes exactly where its cause holds and none before it does. Assumes nothing.
 use Prim.Native.Nat.{ℕ, _+_, _-_, _*_, _/_, _%_, _<_, _≤_}
-use mathlib.Core.Bool.{Bool, true, false, cond, not, _&&_, _||_, true≢false, false≢true, or-true, Bool·not-not}
+use mathlib.Core.Bool.{Bool, true, false, cond, not, _&&_, _||_, true≢false, false≢true}
 use mathlib.Core.List.{List, [], _∷_}
-use mathlib.Core.Logic.{_↔_, _⊎_, ⊎-elim, inl, inr}
-use mathlib.Core.Path.{_≡_, refl, sym, _∙_}
+use mathlib.Core.Logic.{_↔_}
+use mathlib.Core.Path.{_≡_, refl, _∙_}
 use native.Mathlib.Omega.{arith}
 use borrow.Author.Tests.{eqb-true, eqb-false, ltb-false, eq-eqb, ne-eqb, not-false}
 use lib.ListN.{length, getD, take, drop, length-take, length-drop}
 use lib.Seq.{getD-take, getD-drop}
-use lib.Dec.{eqb, ltb, leb}
+use lib.Dec.{eqb, ltb}
 use Rattle.rules.specs.declared.Model.the-variants.{M8511, M8512, M8513}
 use Rattle.rules.specs.declared.Errors.{Errors}
-use Rattle.rules.specs.declared.Programming.{Programming}
 use Rattle.rules.specs.declared.Configuration.{Configuration}
 use Rattle.rules.specs.declared.FileCycle.{FileCycle}
 use Rattle.rules.specs.declared.FileCycle.the-variants.{SetupCycle, GroupCycle, LimitCycle}
 use Rattle.rules.specs.declared.Cycle.the-variants.{OfFile, NudgeCycle}
-use Rattle.rules.specs.declared.Refusal.{Refusal}
-use Rattle.rules.specs.declared.Refusal.the-variants.{UnknownModule, Ignored, NudgeOutput, NudgeSetpoint, Transducer}
+use Rattle.rules.specs.declared.Refusal.the-variants.{UnknownModule, Ignored, NudgeOutput, NudgeSetpoint}
 use Rattle.rules.specs.declared.Outcome.the-variants.{Accepted, Refused}
-use Rattle.rules.specs.declared.Decision.{Decision}
 use Rattle.rules.specs.declared.CycleResult.{CycleResult}
 use Rattle.rules.specs.declared.Module.{Module}
-use Rattle.rules.specs.declared.Sample.{Sample}
-use Rattle.rules.specs.declared.Answer.{Answer}
 use Rattle.rules.specs.Words.{bit}
 use Rattle.rules.specs.Variants.{modelKnown, modelOf, modelIn}
-use Rattle.rules.specs.Switches.{limitOf, answerOf}
+use Rattle.rules.specs.Switches.{limitOf}
 use Rattle.rules.specs.Cycle.{numberOf, outcomeNumber, noErrors, acts, underway, cycle, idleCycle, turnedAway, ignoredCycle, refusedCycle, acceptedCycle, judged, stands}
 use Rattle.rules.specs.SetupWords.{setupErrors}
 use Rattle.rules.specs.GroupWords.{groupErrors}
@@ -35,8 +30,7 @@ use Rattle.rules.specs.LimitWords.{limitErrors}
 use Rattle.rules.specs.FileCycle.{fileLength, lengthRefusal, commandAt, dataRefusal, barred, fileErrors, brought, command, clears, fileActs, fileCycle}
 use Rattle.rules.specs.Nudge.{nudgeOutputBad, nudgeSetpointBad, nudgedProgramming, nudgeActs, nudgeCycle}
 use Rattle.rules.specs.Reader.{readerRefusal, readerPart}
-use Rattle.rules.specs.Calls.{sound}
-use Rattle.rules.specs.Card.{freshModule, poweredUp, fileCall, nudgeCall, stepAnswer, stepCall}
+use Rattle.rules.specs.Card.{freshModule, poweredUp, fileCall, nudgeCall}
 use Rattle.rules.proofs.Cycles.{errors-underway}
 use Rattle.rules.proofs.Causes.{firstOf, Exactly, exactly}
 
@@ -93,6 +87,7 @@ file-tests kind m file =
   where
     h : Configuration
     h = actsOn kind m file
+
     go : (l a b z : Bool)
         → outcomeNumber (cond l (cond a (cond b (ignoredCycle h) (cond z (acceptedCycle (brought kind h file) h) (refusedCycle (dataRefusal kind) h))) (idleCycle (OfFile kind) (command kind file) (m .configuration))) (turnedAway (lengthRefusal kind) (m .configuration)) .outcome)
         ≡ firstOf ((not l, numberOf (lengthRefusal kind)) ∷ (not a, 65535) ∷ (b, numberOf Ignored) ∷ (not z, numberOf (dataRefusal kind)) ∷ [])
@@ -166,8 +161,10 @@ nudge-outcome m w =
   where
     g : Configuration
     g = m .configuration
+
     h : Bool → Configuration
     h c = underway NudgeCycle c g
+
     go : (a c b9 b10 : Bool)
         → outcomeNumber (cond a (cond c (acceptedCycle (g .programming) (h c)) (cond (stands (h c .errors)) (ignoredCycle (h c)) (cond b9 (refusedCycle NudgeOutput (h c)) (cond b10 (refusedCycle NudgeSetpoint (h c)) (acceptedCycle (nudgedProgramming (g .programming) w) (h c)))))) (idleCycle NudgeCycle w g) .outcome)
         ≡ firstOf ((not a, 65535) ∷ (not c && anyError (g .errors), 5) ∷ (not c && b9, 9) ∷ (not c && b10, 10) ∷ [])
@@ -212,10 +209,11 @@ none-of-three false false false h = (refl, refl, refl)
 
 -- "3: unknown module (gives no module) .. Nothing changes."
 pub power-3 : (m : Module) (n : ℕ) → (outcomeNumber (poweredUp m n .outcome) ≡ 3) ↔ ((n ≡ 8511 → ⊥) × (n ≡ 8512 → ⊥) × (n ≡ 8513 → ⊥))
-power-3 m n =
-    (λ e. let h = none-of-three (eqb n 8511) (eqb n 8512) (eqb n 8513) (exactly (powerCauses n) _ refl (power-outcome m n) .0 .0 e .1) in
-    (eqb-false n 8511 (h .0), eqb-false n 8512 (h .1), eqb-false n 8513 (h .2)),
-    λ h. power-outcome m n ∙ rw (ne-eqb n 8511 (h .0), ne-eqb n 8512 (h .1), ne-eqb n 8513 (h .2)))
+power-3 m n = (
+  λ e. let h = none-of-three (eqb n 8511) (eqb n 8512) (eqb n 8513) (exactly (powerCauses n) _ refl (power-outcome m n) .0 .0 e .1) in
+      (eqb-false n 8511 (h .0), eqb-false n 8512 (h .1), eqb-false n 8513 (h .2)),
+  λ h. power-outcome m n ∙ rw (ne-eqb n 8511 (h .0), ne-eqb n 8512 (h .1), ne-eqb n 8513 (h .2)),
+)
 
 pub power-refused : (m : Module) (n : ℕ) → outcomeNumber (poweredUp m n .outcome) ≡ 3 → poweredUp m n .card ≡ m
 unfolding poweredUp

@@ -1,16 +1,13 @@
--- Demand 1, what a call leaves: refused with each number, Idle, and a step answered 11, over the definitions that the contracts cite, for every module, file,
--- word and sample. Numbers, lengths and places are written out. Assumes nothing.
-use Prim.Native.Nat.{ℕ, _+_, _-_, _*_, _^_, _<_, _≤_}
-use mathlib.Core.Bool.{Bool, true, false, cond, not, _&&_, _||_, true≢false, false≢true}
-use mathlib.Core.List.{List, [], _∷_}
+-- Demand 1, what a refused or Idle cycle leaves of the module, over the definitions that the contracts cite, for every module, file and word. Numbers, lengths
+-- and places are written out. Assumes nothing.
+use Prim.Native.Nat.{ℕ}
+use mathlib.Core.Bool.{Bool, true, false, cond, not, _&&_, _||_, true≢false}
+use mathlib.Core.List.{List}
 use mathlib.Core.Logic.{_⊎_, ⊎-elim}
-use mathlib.Core.Path.{_≡_, refl, sym, ap, _∙_}
-use native.Mathlib.Omega.{arith}
-use native.Mathlib.Nat.{div-eq-of-lt}
-use borrow.Author.Tests.{eqb-true, ltb-true, ltb-false, eq-eqb, ne-eqb, not-true, not-false}
-use lib.ListN.{length, getD, set, length-set, List·getD-eq-default}
-use lib.Seq.{getD-set-same, getD-set-other}
-use lib.Dec.{eqb, ltb}
+use mathlib.Core.Path.{_≡_, refl, _∙_}
+use borrow.Author.Tests.{eq-eqb, ne-eqb, not-true, not-false}
+use lib.ListN.{length}
+use lib.Dec.{eqb}
 use Rattle.rules.specs.declared.Errors.{Errors}
 use Rattle.rules.specs.declared.Acknowledges.{Acknowledges}
 use Rattle.rules.specs.declared.Configuration.{Configuration}
@@ -19,18 +16,16 @@ use Rattle.rules.specs.declared.FileCycle.the-variants.{SetupCycle, Grou
 use Rattle.rules.specs.declared.Cycle.{Cycle}
 use Rattle.rules.specs.declared.Cycle.the-variants.{OfFile, NudgeCycle}
 use Rattle.rules.specs.declared.Refusal.{Refusal}
-use Rattle.rules.specs.declared.Refusal.the-variants.{NudgeOutput, NudgeSetpoint}
 use Rattle.rules.specs.declared.Outcome.the-variants.{Idle, Refused}
 use Rattle.rules.specs.declared.Module.{Module}
-use Rattle.rules.specs.declared.Sample.{Sample}
-use Rattle.rules.specs.Words.{bit, storedAt}
+use Rattle.rules.specs.Words.{bit}
 use Rattle.rules.specs.Cycle.{numberOf, outcomeNumber, acts, underway, cycle, idleCycle, turnedAway, ignoredCycle, refusedCycle, judged, stands}
-use Rattle.rules.specs.FileCycle.{fileLength, lengthRefusal, commandAt, statusAt, dataRefusal, barred, fileErrors, failing, command, clears, fileActs, fileCycle, statusWords, fileAfter}
+use Rattle.rules.specs.FileCycle.{fileLength, lengthRefusal, commandAt, dataRefusal, barred, fileErrors, failing, command, clears, fileActs, fileCycle, fileAfter}
 use Rattle.rules.specs.Nudge.{nudgeOutputBad, nudgeActs, nudgeCycle}
 use Rattle.rules.specs.Card.{fileCall, fileLeft, nudgeCall}
-use Rattle.rules.proofs.Laws.{length-stored}
-use Rattle.rules.proofs.Past.{both, by}
+use Rattle.rules.proofs.Past.{both}
 use Rattle.rules.proofs.Cycles.{errors-underway, file-leaves, nudge-leaves}
+use Rattle.rules.proofs.FilesLeft.{lengthOf, commandOf, Status, acted-status}
 use Rattle.rules.proofs.Refusals.{anyError, actsOn, file-tested, setup-outcome, group-outcome, limit-outcome, nudge-outcome, nudge-exactly}
 
 -- ---- Refused with any number: programming and state stay
@@ -46,79 +41,9 @@ pub nudge-refused : (m : Module) (w : ℕ) (r : Refusal) → nudgeCall m w .outc
 unfolding nudgeCall
 nudge-refused m w r e = (rw e at (nudge-leaves (m .configuration) w .programming), rw e)
 
--- ---- The file: whatever the outcome, only the status words change
-
--- words stored from a place on leave the others, and are at their places
-stored-outside : (at : ℕ) (ws file : List ℕ) (k : ℕ) → ((at ≤ k) × (k < at + length ws) → ⊥) → getD (storedAt at ws file) k 0 ≡ getD file k 0
-unfolding storedAt
-stored-outside at [] file k h = refl
-stored-outside at (w ∷ ws) file k h =
-    stored-outside (at + 1) ws (set file at w) k (λ p. h (omega arith, omega arith)) ∙ getD-set-other file at k w 0 (λ e. h (omega arith, omega arith))
-
-stored-to-end : (at : ℕ) (ws file : List ℕ) (k : ℕ) → ((at ≤ k) × (k < length file) → ⊥) → getD (storedAt at ws file) k 0 ≡ getD file k 0
-stored-to-end at ws file k h =
-    by (ltb k (length file))
-    (λ t. stored-outside at ws file k (λ p. h (p .0, ltb-true k (length file) t)))
-    (λ f. let z : length file ≤ k = ltb-false k (length file) f in
-    let y : length (storedAt at ws file) ≤ k = rw (length-stored at ws file) z in
-    List·getD-eq-default (storedAt at ws file) 0 y ∙ sym (List·getD-eq-default file 0 z))
-
-stored-first : (at w : ℕ) (ws file : List ℕ) → at < length file → getD (storedAt at (w ∷ ws) file) at 0 ≡ w
-unfolding storedAt
-stored-first at w ws file h = stored-outside (at + 1) ws (set file at w) at (λ p. omega arith) ∙ getD-set-same file at w 0 h
-
-stored-second : (at v w : ℕ) (ws file : List ℕ) → at + 1 < length file → getD (storedAt at (v ∷ w ∷ ws) file) (at + 1) 0 ≡ w
-unfolding storedAt
-stored-second at v w ws file h = stored-first (at + 1) w ws (set file at v) (simp length-set h)
-
--- "An acting cycle rewrites its status words (100–109, 110–119, M1 630–649)"
-abbrev pub Outside : FileCycle → ℕ → Type 0
-Outside SetupCycle k = (100 ≤ k) × (k ≤ 109) → ⊥
-Outside GroupCycle k = (110 ≤ k) × (k ≤ 119) → ⊥
-Outside LimitCycle k = (630 ≤ k) × (k ≤ 649) → ⊥
-
--- the words that an acting cycle stores
-abbrev stored : FileCycle → Module → List ℕ → List ℕ
-stored kind m file =
-    statusWords kind (fileCycle kind (m .configuration) file .configuration) (fileErrors kind (m .configuration) file) (failing kind (m .configuration) file) (m .state .since .positions)
-
--- what holds of the file, and of the file of the right length with those words, holds of the file after the call
-file-either : (P : List ℕ → Type 0) (kind : FileCycle) (m : Module) (file : List ℕ) → P file
-    → (length file ≡ fileLength kind → P (storedAt (statusAt kind) (stored kind m file) file)) → P (fileLeft kind m file)
-unfolding fileLeft fileAfter
-file-either P kind m file p q = go (eqb (length file) (fileLength kind)) (acts (OfFile kind) (command kind file) (m .configuration)) (λ t. q (eqb-true (length file) (fileLength kind) t))
-  where
-    go : (l a : Bool) → (l ≡ true → P (storedAt (statusAt kind) (stored kind m file) file)) → P (cond (l && a) (storedAt (statusAt kind) (stored kind m file) file) file)
-    go true true h = h refl
-    go true false h = p
-    go false a h = p
-
-pub file-outside : (kind : FileCycle) (m : Module) (file : List ℕ) (k : ℕ) → Outside kind k → getD (fileLeft kind m file) k 0 ≡ getD file k 0
-unfolding fileLength statusAt statusWords
-file-outside SetupCycle m file k h =
-    file-either (λ f. getD f k 0 ≡ getD file k 0) SetupCycle m file refl (λ _. stored-outside 100 (stored SetupCycle m file) file k (λ p. h (p .0, omega arith)))
-file-outside GroupCycle m file k h =
-    file-either (λ f. getD f k 0 ≡ getD file k 0) GroupCycle m file refl (λ l. stored-to-end 110 (stored GroupCycle m file) file k (λ p. h (p .0, omega arith)))
-file-outside LimitCycle m file k h =
-    file-either (λ f. getD f k 0 ≡ getD file k 0) LimitCycle m file refl (λ _. stored-outside 630 (stored LimitCycle m file) file k (λ p. h (p .0, omega arith)))
-
-pub file-same-length : (kind : FileCycle) (m : Module) (file : List ℕ) → length (fileLeft kind m file) ≡ length file
-file-same-length kind m file =
-    file-either (λ f. length f ≡ length file) kind m file refl (λ _. length-stored (statusAt kind) (stored kind m file) file)
-
 -- ---- Refusals 1 and 2
 
--- 01's lengths, the word with transmit and ClrErr, and the numbers 1 and 2, and 6, 7 and 8, of each kind
-abbrev pub lengthOf : FileCycle → ℕ
-lengthOf SetupCycle = 120
-lengthOf GroupCycle = 120
-lengthOf LimitCycle = 650
-
-abbrev pub commandOf : FileCycle → List ℕ → ℕ
-commandOf SetupCycle file = getD file 0 0
-commandOf GroupCycle file = getD file 20 0
-commandOf LimitCycle file = getD file 0 0
-
+-- 1 and 2, and 6, 7 and 8, of each kind
 abbrev pub lengthNumber : FileCycle → ℕ
 lengthNumber SetupCycle = 1
 lengthNumber GroupCycle = 1
@@ -129,38 +54,19 @@ dataNumber SetupCycle = 6
 dataNumber GroupCycle = 7
 dataNumber LimitCycle = 8
 
--- these are the definitions'
-length-is : (kind : FileCycle) → lengthOf kind ≡ fileLength kind
-unfolding fileLength
-length-is SetupCycle = refl
-length-is GroupCycle = refl
-length-is LimitCycle = refl
-
-number-is : (kind : FileCycle) → lengthNumber kind ≡ numberOf (lengthRefusal kind)
-unfolding numberOf lengthRefusal
-number-is SetupCycle = refl
-number-is GroupCycle = refl
-number-is LimitCycle = refl
-
 data-is : (kind : FileCycle) → dataNumber kind ≡ numberOf (dataRefusal kind)
 unfolding numberOf dataRefusal
 data-is SetupCycle = refl
 data-is GroupCycle = refl
 data-is LimitCycle = refl
 
-command-is : (kind : FileCycle) (file : List ℕ) → commandOf kind file ≡ command kind file
-unfolding commandAt
-command-is SetupCycle file = refl
-command-is GroupCycle file = refl
-command-is LimitCycle file = refl
-
 -- "Lengths come first, before the transmit bit is read .. Nothing changes.": not the module, not the file
 pub file-length : (kind : FileCycle) (m : Module) (file : List ℕ) → (length file ≡ lengthOf kind → ⊥)
     → (outcomeNumber (fileCall kind m file .outcome) ≡ lengthNumber kind) × (fileCall kind m file .card ≡ m) × (fileLeft kind m file ≡ file)
-unfolding fileCall fileCycle fileLeft fileAfter turnedAway
-file-length kind m file h =
-    let f = ne-eqb (length file) (fileLength kind) (λ e. h (e ∙ sym (length-is kind))) in
-    (rw f (sym (number-is kind)), rw f, rw f)
+unfolding fileCall fileCycle fileLeft fileAfter turnedAway fileLength lengthRefusal numberOf
+file-length SetupCycle m file h = let f = ne-eqb (length file) 120 h in (rw f, rw f, rw f)
+file-length GroupCycle m file h = let f = ne-eqb (length file) 120 h in (rw f, rw f, rw f)
+file-length LimitCycle m file h = let f = ne-eqb (length file) 650 h in (rw f, rw f, rw f)
 
 -- ---- Refusals 5 to 10: what an acting cycle leaves
 
@@ -201,12 +107,6 @@ data-tests kind m file e =
     let t = file-tested kind m file .1 .1 .1 .0 .0 (e ∙ data-is kind) in
     (not-false _ (t .0 .0 .0 .1), not-false _ (t .0 .0 .1), t .0 .1, not-true _ (t .1))
 
--- the first status word, and in a group or limit cycle the second, too
-abbrev pub Status : FileCycle → ℕ → ℕ → List ℕ → Type 0
-Status SetupCycle a b file = getD file 100 0 ≡ a
-Status GroupCycle a b file = (getD file 110 0 ≡ a) × (getD file 111 0 ≡ b)
-Status LimitCycle a b file = (getD file 630 0 ≡ a) × (getD file 631 0 ≡ b)
-
 ignored-cycle : (kind : FileCycle) (m : Module) (file : List ℕ) → outcomeNumber (fileCall kind m file .outcome) ≡ 5
     → fileCycle kind (m .configuration) file ≡ ignoredCycle (actsOn kind m file)
 unfolding fileCycle cycle fileActs judged
@@ -218,25 +118,6 @@ unfolding fileCycle cycle fileActs judged
 data-cycle kind m file e =
     let t = data-tests kind m file e in
     rw (t .0, t .1, t .2, errors-underway kind (OfFile kind) (clears (command kind file)) (m .configuration) file, t .3)
-
-file-acted : (kind : FileCycle) (m : Module) (file : List ℕ) → eqb (length file) (fileLength kind) ≡ true → acts (OfFile kind) (command kind file) (m .configuration) ≡ true
-    → fileLeft kind m file ≡ storedAt (statusAt kind) (stored kind m file) file
-unfolding fileLeft fileAfter
-file-acted kind m file l a = rw (l, a)
-
-acted-status : (kind : FileCycle) (m : Module) (file : List ℕ) (i : Bool) → eqb (length file) (fileLength kind) ≡ true → acts (OfFile kind) (command kind file) (m .configuration) ≡ true
-    → fileCycle kind (m .configuration) file .configuration .ignored ≡ i
-    → Status kind (cond i 0x4000 (fileErrors kind (m .configuration) file)) (cond i 0 (failing kind (m .configuration) file)) (fileLeft kind m file)
-unfolding statusAt statusWords fileLength
-acted-status SetupCycle m file i l a e =
-    let n : length file ≡ 120 = eqb-true (length file) 120 l in
-    rw (file-acted SetupCycle m file l a, e) (stored-first 100 _ _ file (omega arith))
-acted-status GroupCycle m file i l a e =
-    let n : length file ≡ 120 = eqb-true (length file) 120 l in
-    rw (file-acted GroupCycle m file l a, e) (stored-first 110 _ _ file (omega arith), stored-second 110 _ _ _ file (omega arith))
-acted-status LimitCycle m file i l a e =
-    let n : length file ≡ 650 = eqb-true (length file) 650 l in
-    rw (file-acted LimitCycle m file l a, e) (stored-first 630 _ _ file (omega arith), stored-second 630 _ _ _ file (omega arith))
 
 -- 5: "Sets MsgIgn, itself no error", and no error, after ClrErr dropped all errors and the fault; "the status word has bit 14 only"
 ignored-leaves : (kind : FileCycle) (m : Module) (file : List ℕ) → fileCycle kind (m .configuration) file ≡ ignoredCycle (actsOn kind m file)

@@ -59,5 +59,6 @@ from-here (c ∷ cs) Before b d = go (c .0) (both (apart (c .1) cs) (distinct cs
     go false p k =
         ((λ e. absurd (not-first (c .1) cs (p .0) (sym e)), λ x. absurd (false≢true (x .1))), k (Before × (false ≡ false)) (b, refl) (p .1))
 
+-- the number of the first cause that holds is of this form
 pub exactly : (cs : List (Bool × ℕ)) (o : ℕ) → distinct cs ≡ true → o ≡ firstOf cs → Exactly o Unit cs
 exactly cs o d e = rw e (from-here cs Unit tt d)

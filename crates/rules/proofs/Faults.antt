@@ -50,17 +50,21 @@ neither-one : (a b : Bool) → (a || b) ≡ false → b ≡ false
 neither-one true b h = absurd (true≢false h)
 neither-one false b h = h
 
+-- a step that is not answered 11
 pub sound-reads : (g : Configuration) (s : Sample) → sound g s ≡ not (ltb 1023 (s .raw) || g .fault)
 unfolding sound
 sound-reads g s = rw (over-reads (s .raw)) (neither (ltb 1023 (s .raw)) (g .fault))
 
+-- 11 or none
 pub step-outcome : (m : Module) (s : Sample) → stepNumber (stepCall m s .answer) ≡ firstOf (stepCauses m s)
 unfolding stepCall stepAnswer answerOf numberOf
 step-outcome m s = rw (sound-reads (m .configuration) s, Bool·not-not (ltb 1023 (s .raw) || m .configuration .fault))
 
+-- 11 exactly where its cause holds
 pub step-exactly : (m : Module) (s : Sample) → Exactly (stepNumber (stepCall m s .answer)) Unit (stepCauses m s)
 step-exactly m s = exactly (stepCauses m s) _ refl (step-outcome m s)
 
+-- the same in words: "raw over 1023, or fault latched"
 pub step-11 : (m : Module) (s : Sample) → (stepNumber (stepCall m s .answer) ≡ 11) ↔ ((1023 < s .raw) ⊎ (m .configuration .fault ≡ true))
 step-11 m s = (
   λ e. ⊎-elim (λ t. inl (ltb-true 1023 (s .raw) t)) (λ f. inr f) (either (ltb 1023 (s .raw)) (m .configuration .fault) (step-exactly m s .0 .0 e .1)),

@@ -77,6 +77,7 @@ file-either P kind m file p q = go (eqb (length file) (fileLength kind)) (acts (
     go true false h = p
     go false a h = p
 
+-- all other words are as they were, whatever the outcome
 pub file-outside : (kind : FileCycle) (m : Module) (file : List ℕ) (k : ℕ) → Outside kind k → getD (fileLeft kind m file) k 0 ≡ getD file k 0
 unfolding fileLength statusAt statusWords
 file-outside SetupCycle m file k h =
@@ -86,6 +87,7 @@ file-outside GroupCycle m file k h =
 file-outside LimitCycle m file k h =
     file-either (λ f. getD f k 0 ≡ getD file k 0) LimitCycle m file refl (λ _. stored-outside 630 (stored LimitCycle m file) file k (λ p. h (p .0, omega arith)))
 
+-- and so is the length
 pub file-same-length : (kind : FileCycle) (m : Module) (file : List ℕ) → length (fileLeft kind m file) ≡ length file
 file-same-length kind m file =
     file-either (λ f. length f ≡ length file) kind m file refl (λ _. length-stored (statusAt kind) (stored kind m file) file)
@@ -96,6 +98,7 @@ Status SetupCycle a b file = getD file 100 0 ≡ a
 Status GroupCycle a b file = (getD file 110 0 ≡ a) × (getD file 111 0 ≡ b)
 Status LimitCycle a b file = (getD file 630 0 ≡ a) × (getD file 631 0 ≡ b)
 
+-- an acting cycle puts 4000h and 0 there where it was ignored, else the check's word and the failing group or output
 pub acted-status : (kind : FileCycle) (m : Module) (file : List ℕ) (i : Bool) → eqb (length file) (fileLength kind) ≡ true
     → acts (OfFile kind) (command kind file) (m .configuration) ≡ true → fileCycle kind (m .configuration) file .configuration .ignored ≡ i
     → Status kind (cond i 0x4000 (fileErrors kind (m .configuration) file)) (cond i 0 (failing kind (m .configuration) file)) (fileLeft kind m file)

@@ -1,5 +1,5 @@
--- Demand 1, the outcomes, over the definitions that the contracts cite, for every module, file, word and sample: each call's causes of refusal in 01's order,
--- with their numbers and places written out, and each number comes exactly where its cause holds and none before it does. Assumes nothing.
+-- Demand 1, the outcomes, over the definitions that the contracts cite, for every module, file and word: each call's causes of refusal in 01's order, with
+-- their numbers and places written out, and each number comes exactly where its cause holds and none before it does. Assumes nothing.
 use Prim.Native.Nat.{ℕ, _+_, _-_, _*_, _/_, _%_, _<_, _≤_}
 use mathlib.Core.Bool.{Bool, true, false, cond, not, _&&_, _||_, true≢false, false≢true}
 use mathlib.Core.List.{List, [], _∷_}
@@ -103,6 +103,7 @@ file-tested SetupCycle m file = exactly (fileTests SetupCycle m file) _ refl (fi
 file-tested GroupCycle m file = exactly (fileTests GroupCycle m file) _ refl (file-tests GroupCycle m file)
 file-tested LimitCycle m file = exactly (fileTests LimitCycle m file) _ refl (file-tests LimitCycle m file)
 
+-- the definitions' tests as they are written out above
 idle-reads : (t a : Bool) → not (t && not a) ≡ (not t || a)
 idle-reads true true = refl
 idle-reads true false = refl
@@ -112,19 +113,21 @@ stands-reads : (c : Bool) (e : Errors) → anyError (cond c noErrors e) ≡ (not
 stands-reads true e = refl
 stands-reads false e = refl
 
--- 01's cases, in their order
+-- the setup cycle's cases, in 01's order
 pub setup-outcome : (m : Module) (file : List ℕ) → outcomeNumber (fileCall SetupCycle m file .outcome) ≡ firstOf (setupCauses m file)
 unfolding numberOf fileLength lengthRefusal commandAt dataRefusal barred stands fileErrors acts underway
 setup-outcome m file =
     rw (← idle-reads (bit (getD file 0 0) 15) (m .configuration .acknowledges .setup), ← stands-reads (bit (getD file 0 0) 0) (m .configuration .errors))
     (file-tests SetupCycle m file)
 
+-- the group cycle's
 pub group-outcome : (m : Module) (file : List ℕ) → outcomeNumber (fileCall GroupCycle m file .outcome) ≡ firstOf (groupCauses m file)
 unfolding numberOf fileLength lengthRefusal commandAt dataRefusal barred stands fileErrors acts underway
 group-outcome m file =
     rw (← idle-reads (bit (getD file 20 0) 15) (m .configuration .acknowledges .group), ← stands-reads (bit (getD file 20 0) 0) (m .configuration .errors))
     (file-tests GroupCycle m file)
 
+-- the limit cycle's
 pub limit-outcome : (m : Module) (file : List ℕ) → outcomeNumber (fileCall LimitCycle m file .outcome) ≡ firstOf (limitCauses m file)
 unfolding numberOf fileLength lengthRefusal commandAt dataRefusal barred stands fileErrors acts underway
 limit-outcome m file =
@@ -152,6 +155,7 @@ nudgeCauses m w =
     ∷ (not (bit w 14) && nudgeSetpointBad (m .configuration .programming .setup .top + 1) (limitOf (m .configuration .programming) (w % 32)) (w / 32 % 8) w, 10)
     ∷ []
 
+-- the nudge's cases, in 01's order
 pub nudge-outcome : (m : Module) (w : ℕ) → outcomeNumber (nudgeCall m w .outcome) ≡ firstOf (nudgeCauses m w)
 unfolding nudgeCall nudgeCycle cycle nudgeActs acts stands underway idleCycle ignoredCycle refusedCycle acceptedCycle numberOf
 nudge-outcome m w =
@@ -180,6 +184,7 @@ nudge-outcome m w =
         inner false false true = refl
         inner false false false = refl
 
+-- each number exactly where its cause holds and none before it does
 pub nudge-exactly : (m : Module) (w : ℕ) → Exactly (outcomeNumber (nudgeCall m w .outcome)) Unit (nudgeCauses m w)
 nudge-exactly m w = exactly (nudgeCauses m w) _ refl (nudge-outcome m w)
 
@@ -189,6 +194,7 @@ nudge-exactly m w = exactly (nudgeCauses m w) _ refl (nudge-outcome m w)
 abbrev pub powerCauses : ℕ → List (Bool × ℕ)
 powerCauses n = (not (eqb n 8511 || eqb n 8512 || eqb n 8513), 3) ∷ []
 
+-- 3 or accepted
 pub power-outcome : (m : Module) (n : ℕ) → outcomeNumber (poweredUp m n .outcome) ≡ firstOf (powerCauses n)
 unfolding poweredUp modelKnown numberOf
 power-outcome m n = go (eqb n 8511) (eqb n 8512) (eqb n 8513)
@@ -207,7 +213,7 @@ none-of-three false true c h = absurd (false≢true h)
 none-of-three false false true h = absurd (false≢true h)
 none-of-three false false false h = (refl, refl, refl)
 
--- "3: unknown module (gives no module) .. Nothing changes."
+-- 3 exactly for a number other than "8511, 8512 or 8513"
 pub power-3 : (m : Module) (n : ℕ) → (outcomeNumber (poweredUp m n .outcome) ≡ 3) ↔ ((n ≡ 8511 → ⊥) × (n ≡ 8512 → ⊥) × (n ≡ 8513 → ⊥))
 power-3 m n = (
   λ e. let h = none-of-three (eqb n 8511) (eqb n 8512) (eqb n 8513) (exactly (powerCauses n) _ refl (power-outcome m n) .0 .0 e .1) in
@@ -215,6 +221,7 @@ power-3 m n = (
   λ h. power-outcome m n ∙ rw (ne-eqb n 8511 (h .0), ne-eqb n 8512 (h .1), ne-eqb n 8513 (h .2)),
 )
 
+-- "3: unknown module (gives no module) .. Nothing changes."
 pub power-refused : (m : Module) (n : ℕ) → outcomeNumber (poweredUp m n .outcome) ≡ 3 → poweredUp m n .card ≡ m
 unfolding poweredUp
 power-refused m n = go (modelKnown n)
@@ -238,10 +245,12 @@ power-accepted m = (refl, refl, refl)
 abbrev pub readerCauses : ℕ → ℕ → Bool → ℕ → List (Bool × ℕ)
 readerCauses length0 length1 group n = (not (eqb length0 120), 1) ∷ (not (eqb length1 650), 2) ∷ (eqb n 0 || ltb (cond group 6 32) n, 4) ∷ []
 
+-- the reader's number, in 01's order
 pub reader-outcome : (length0 length1 : ℕ) (group : Bool) (n : ℕ) → readerRefusal length0 length1 group n ≡ firstOf (readerCauses length0 length1 group n)
 unfolding readerRefusal numberOf
 reader-outcome length0 length1 group n = refl
 
+-- each number exactly where its cause holds and none before it does, 0 where none holds
 pub reader-exactly : (length0 length1 : ℕ) (group : Bool) (n : ℕ)
     → Exactly (readerRefusal length0 length1 group n) Unit (readerCauses length0 length1 group n)
 reader-exactly length0 length1 group n = exactly (readerCauses length0 length1 group n) _ refl (reader-outcome length0 length1 group n)

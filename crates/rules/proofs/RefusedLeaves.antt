@@ -36,6 +36,7 @@ pub file-refused : (kind : FileCycle) (m : Module) (file : List ℕ) (r : Refusa
 unfolding fileCall
 file-refused kind m file r e = (rw e at (file-leaves kind (m .configuration) file .programming), rw e)
 
+-- the same of a nudge
 pub nudge-refused : (m : Module) (w : ℕ) (r : Refusal) → nudgeCall m w .outcome ≡ Refused r
     → (nudgeCall m w .card .configuration .programming ≡ m .configuration .programming) × (nudgeCall m w .card .state ≡ m .state)
 unfolding nudgeCall
@@ -43,22 +44,11 @@ nudge-refused m w r e = (rw e at (nudge-leaves (m .configuration) w .programming
 
 -- ---- Refusals 1 and 2
 
--- 1 and 2, and 6, 7 and 8, of each kind
+-- "1: M0 length; 2: M1 length"
 abbrev pub lengthNumber : FileCycle → ℕ
 lengthNumber SetupCycle = 1
 lengthNumber GroupCycle = 1
 lengthNumber LimitCycle = 2
-
-abbrev pub dataNumber : FileCycle → ℕ
-dataNumber SetupCycle = 6
-dataNumber GroupCycle = 7
-dataNumber LimitCycle = 8
-
-data-is : (kind : FileCycle) → dataNumber kind ≡ numberOf (dataRefusal kind)
-unfolding numberOf dataRefusal
-data-is SetupCycle = refl
-data-is GroupCycle = refl
-data-is LimitCycle = refl
 
 -- "Lengths come first, before the transmit bit is read .. Nothing changes.": not the module, not the file
 pub file-length : (kind : FileCycle) (m : Module) (file : List ℕ) → (length file ≡ lengthOf kind → ⊥)
@@ -70,6 +60,19 @@ file-length LimitCycle m file h = let f = ne-eqb (length file) 650 h in (rw f, r
 
 -- ---- Refusals 5 to 10: what an acting cycle leaves
 
+-- "6, 7, 8: setup, group, limit data."
+abbrev pub dataNumber : FileCycle → ℕ
+dataNumber SetupCycle = 6
+dataNumber GroupCycle = 7
+dataNumber LimitCycle = 8
+
+data-is : (kind : FileCycle) → dataNumber kind ≡ numberOf (dataRefusal kind)
+unfolding numberOf dataRefusal
+data-is SetupCycle = refl
+data-is GroupCycle = refl
+data-is LimitCycle = refl
+
+-- none of SUErr, GPErr, LSErr, I/DNum and I/DSet
 abbrev pub none : Errors
 none = record { setup = false; group = false; limit = false; number = false; setpoint = false }
 
@@ -120,29 +123,33 @@ data-cycle kind m file e =
     rw (t .0, t .1, t .2, errors-underway kind (OfFile kind) (clears (command kind file)) (m .configuration) file, t .3)
 
 -- 5: "Sets MsgIgn, itself no error", and no error, after ClrErr dropped all errors and the fault; "the status word has bit 14 only"
+abbrev pub ignoredModule : FileCycle → Module → List ℕ → Module
+ignoredModule kind m file =
+    refusedModule m (OfFile kind) (cond (bit (commandOf kind file) 0) none (m .configuration .errors)) true (not (bit (commandOf kind file) 0) && m .configuration .fault)
+
 ignored-leaves : (kind : FileCycle) (m : Module) (file : List ℕ) → fileCycle kind (m .configuration) file ≡ ignoredCycle (actsOn kind m file)
-    → fileCall kind m file .card
-    ≡ refusedModule m (OfFile kind) (cond (bit (commandOf kind file) 0) none (m .configuration .errors)) true (not (bit (commandOf kind file) 0) && m .configuration .fault)
+    → fileCall kind m file .card ≡ ignoredModule kind m file
 unfolding fileCall ignoredCycle underway commandAt
 ignored-leaves SetupCycle m file e = rw e
 ignored-leaves GroupCycle m file e = rw e
 ignored-leaves LimitCycle m file e = rw e
 
 pub file-ignored : (kind : FileCycle) (m : Module) (file : List ℕ) → outcomeNumber (fileCall kind m file .outcome) ≡ 5
-    → (fileCall kind m file .card
-    ≡ refusedModule m (OfFile kind) (cond (bit (commandOf kind file) 0) none (m .configuration .errors)) true (not (bit (commandOf kind file) 0) && m .configuration .fault))
-    × Status kind 0x4000 0 (fileLeft kind m file)
+    → (fileCall kind m file .card ≡ ignoredModule kind m file) × Status kind 0x4000 0 (fileLeft kind m file)
 unfolding ignoredCycle
 file-ignored kind m file e =
     let t = ignored-tests kind m file e in
     let c = ignored-cycle kind m file e in
     (ignored-leaves kind m file c, acted-status kind m file true (t .0) (t .1) (rw c))
 
--- 6, 7, 8: "6 to 10 set their error", and no other stands, for 5 would have come first
+-- 6, 7, 8: "6 to 10 set their error", and no other stands, for "5 comes first"
 abbrev pub ownError : FileCycle → Errors
 ownError SetupCycle = record { setup = true; group = false; limit = false; number = false; setpoint = false }
 ownError GroupCycle = record { setup = false; group = true; limit = false; number = false; setpoint = false }
 ownError LimitCycle = record { setup = false; group = false; limit = true; number = false; setpoint = false }
+
+abbrev pub dataModule : FileCycle → Module → List ℕ → Module
+dataModule kind m file = refusedModule m (OfFile kind) (ownError kind) false (not (bit (commandOf kind file) 0) && m .configuration .fault)
 
 none-stands : (e : Errors) → anyError e ≡ false → e ≡ none
 none-stands e = go (e .setup) (e .group) (e .limit) (e .number) (e .setpoint)
@@ -167,14 +174,14 @@ barred-stands LimitCycle g h = none-stands (g .errors) h
 
 data-leaves : (kind : FileCycle) (m : Module) (file : List ℕ) → fileCycle kind (m .configuration) file ≡ refusedCycle (dataRefusal kind) (actsOn kind m file)
     → actsOn kind m file .errors ≡ none
-    → fileCall kind m file .card ≡ refusedModule m (OfFile kind) (ownError kind) false (not (bit (commandOf kind file) 0) && m .configuration .fault)
+    → fileCall kind m file .card ≡ dataModule kind m file
 unfolding fileCall refusedCycle dataRefusal underway commandAt
 data-leaves SetupCycle m file e s = rw (e, s)
 data-leaves GroupCycle m file e s = rw (e, s)
 data-leaves LimitCycle m file e s = rw (e, s)
 
 pub file-data : (kind : FileCycle) (m : Module) (file : List ℕ) → outcomeNumber (fileCall kind m file .outcome) ≡ dataNumber kind
-    → (fileCall kind m file .card ≡ refusedModule m (OfFile kind) (ownError kind) false (not (bit (commandOf kind file) 0) && m .configuration .fault))
+    → (fileCall kind m file .card ≡ dataModule kind m file)
     × Status kind (fileErrors kind (m .configuration) file) (failing kind (m .configuration) file) (fileLeft kind m file)
 unfolding refusedCycle underway
 file-data kind m file e =
@@ -182,7 +189,7 @@ file-data kind m file e =
     let c = data-cycle kind m file e in
     (data-leaves kind m file c (barred-stands kind (actsOn kind m file) (t .2)), acted-status kind m file false (t .0) (t .1) (rw c))
 
--- the nudge's 5, 9 and 10: bit 14 is clear, so the fault and, on 5, the errors are as before
+-- where the nudge's 5, 9 or 10 comes, it acts and bit 14 is clear
 acting : (t a : Bool) → (not t || a) ≡ false → (t && not a) ≡ true
 acting true true h = absurd (true≢false h)
 acting true false h = refl
@@ -199,6 +206,7 @@ nudge-stands : (m : Module) (b : Bool) → anyError (m .configuration .errors) �
 unfolding stands
 nudge-stands m b h = h
 
+-- the nudge's 5: "Sets MsgIgn, itself no error", and errors and fault are as before
 pub nudge-ignored : (m : Module) (w : ℕ) → outcomeNumber (nudgeCall m w .outcome) ≡ 5
     → nudgeCall m w .card ≡ refusedModule m NudgeCycle (m .configuration .errors) true (m .configuration .fault)
 unfolding nudgeCall nudgeCycle cycle nudgeActs underway ignoredCycle
@@ -207,6 +215,7 @@ nudge-ignored m w e =
     let p = both (not (bit w 14)) (anyError (m .configuration .errors)) (t .1) in
     rw (nudge-acts m w (t .0 .1), not-true (bit w 14) (p .0), nudge-stands m true (p .1))
 
+-- "9: nudged output unprogrammed, ..": I/DNum alone
 pub nudge-output : (m : Module) (w : ℕ) → outcomeNumber (nudgeCall m w .outcome) ≡ 9
     → nudgeCall m w .card
     ≡ refusedModule m NudgeCycle (record { setup = false; group = false; limit = false; number = true; setpoint = false }) false (m .configuration .fault)
@@ -218,6 +227,7 @@ nudge-output m w e =
     let s = other (bit w 14) (anyError (m .configuration .errors)) c (t .0 .1) in
     rw (nudge-acts m w (t .0 .0 .1), c, nudge-stands m false s, p .1, none-stands (m .configuration .errors) s)
 
+-- "10, after 9: ..": I/DSet alone
 pub nudge-setpoint : (m : Module) (w : ℕ) → outcomeNumber (nudgeCall m w .outcome) ≡ 10
     → nudgeCall m w .card
     ≡ refusedModule m NudgeCycle (record { setup = false; group = false; limit = false; number = false; setpoint = true }) false (m .configuration .fault)
@@ -255,7 +265,7 @@ error-then-5 m s = (of-file, λ w t c a. nudge-outcome m w ∙ rw (t, c, a, s))
     of-file GroupCycle file l t c a = group-outcome m file ∙ rw (eq-eqb (length file) 120 l, t, c, a, s)
     of-file LimitCycle file l t c a = limit-outcome m file ∙ rw (eq-eqb (length file) 650 l, t, c, a, s)
 
--- so after 6, 7 and 8, and after 9 and 10
+-- so after 6, 7 and 8
 pub data-then-5 : (kind : FileCycle) (m : Module) (file : List ℕ) → outcomeNumber (fileCall kind m file .outcome) ≡ dataNumber kind → Answers5 (fileCall kind m file .card)
 data-then-5 kind m file e = error-then-5 (fileCall kind m file .card) (rw (file-data kind m file e .0) (own kind))
   where
@@ -264,6 +274,7 @@ data-then-5 kind m file e = error-then-5 (fileCall kind m file .card) (rw (file-
     own GroupCycle = refl
     own LimitCycle = refl
 
+-- and after 9 and 10
 pub nudge-then-5 : (m : Module) (w : ℕ) → (outcomeNumber (nudgeCall m w .outcome) ≡ 9) ⊎ (outcomeNumber (nudgeCall m w .outcome) ≡ 10) → Answers5 (nudgeCall m w .card)
 nudge-then-5 m w e =
     error-then-5 (nudgeCall m w .card) (⊎-elim (λ n. rw (nudge-output m w n)) (λ n. rw (nudge-setpoint m w n)) e)

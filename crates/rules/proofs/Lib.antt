@@ -24,3 +24,4 @@ pub mod Faults
 pub mod Reachable
 pub mod Reports
 pub mod Runs
+pub mod Statuses

@@ -25,6 +25,8 @@ use Rattle.rules.specs.declared.Conditions.{Conditions}
 use Rattle.rules.specs.declared.Answer.{Answer}
 use Rattle.rules.specs.declared.OutputWords.{OutputWords}
 use Rattle.rules.specs.declared.GroupState.{GroupState}
+use Rattle.rules.specs.declared.FileCycle.{FileCycle}
+use Rattle.rules.specs.declared.FileCycle.the-variants.{SetupCycle, GroupCycle, LimitCycle}
 use Rattle.rules.specs.declared.Event.{Event}
 use Rattle.rules.specs.Words.{digit, word, wordOf, table, storedAt, anyWord, signedWord, differing, forced}
 use Rattle.rules.specs.Variants.{groupMode, realCount, virtualCount, andedOf}
@@ -39,7 +41,9 @@ use Rattle.rules.specs.LimitWords.{allZero, limitOfBlock, pulseBad, puls
 use Rattle.rules.specs.Nudge.{nudgeOutput, nudgePair, nudgeOutputBad, nudgeSetpointBad, nudgedLimit}
 use Rattle.rules.specs.Reader.{readerRefusal, readerPart}
 use Rattle.rules.specs.Calls.{freshConfiguration}
+use Rattle.rules.specs.FileCycle.{commandAt}
 use Rattle.rules.specs.Card.{groupAfter, freshGroup}
+use Rattle.rules.specs.Trace.{decimal, hexadecimal, sectionCount, fileOf, transmitClear}
 
 -- A line of the table: what is given, and at the end what 01 says comes of it. SF is 1024 in the lettered ones.
 pub data Case : Type 0 where
@@ -481,9 +485,24 @@ ofReader =
     ∷ numbers (readerPart (counting 120) (counting 650) false 33 ++ readerPart (counting 119) (counting 650) true 1 ++ readerPart (counting 120) (counting 649) true 1) []
     ∷ []
 
+unfoldable pub ofTrace : List Case
+ofTrace =
+    -- "Files are zero elsewhere.": a section's words from its command word on
+    numbers (fileOf SetupCycle (7 ∷ 8 ∷ [])) (7 ∷ 8 ∷ replicate 118 0)
+    ∷ numbers (fileOf GroupCycle (7 ∷ 8 ∷ [])) (replicate 20 0 ++ (7 ∷ 8 ∷ replicate 98 0))
+    ∷ numbers (fileOf LimitCycle (7 ∷ 8 ∷ [])) (7 ∷ 8 ∷ replicate 648 0)
+    -- "then again with transmit clear"
+    ∷ numbers (map (λ (kind : FileCycle). word (transmitClear kind (fileOf kind (0xffff ∷ []))) (commandAt kind)) (SetupCycle ∷ GroupCycle ∷ LimitCycle ∷ [])) (0x7fff ∷ 0x7fff ∷ 0x7fff ∷ [])
+    -- "setup words (0 or 20), group words (0 or 80), limit words (0 or 630)"
+    ∷ numbers (map sectionCount (SetupCycle ∷ GroupCycle ∷ LimitCycle ∷ [])) (20 ∷ 80 ∷ 630 ∷ [])
+    -- "decimal", "four lower-case hexadecimal digits": 0, 32767 and 65535, 0x0a9f
+    ∷ numbers (decimal 0 ++ decimal 32767 ++ decimal 65535) (48 ∷ 51 ∷ 50 ∷ 55 ∷ 54 ∷ 55 ∷ 54 ∷ 53 ∷ 53 ∷ 51 ∷ 53 ∷ [])
+    ∷ numbers (hexadecimal 0x0a9f) (48 ∷ 97 ∷ 57 ∷ 102 ∷ [])
+    ∷ []
+
 -- THE TABLE
 unfoldable pub cases : List Case
-cases = lettered ++ ofWords ++ ofMotion ++ ofGroups ++ ofSwitches ++ ofCycles ++ ofSetup ++ ofGroupWords ++ ofLimitWords ++ ofNudge ++ ofReader
+cases = lettered ++ ofWords ++ ofMotion ++ ofGroups ++ ofSwitches ++ ofCycles ++ ofSetup ++ ofGroupWords ++ ofLimitWords ++ ofNudge ++ ofReader ++ ofTrace
 
 -- what a line says of the definitions
 abbrev pub Says : Case → Type 0

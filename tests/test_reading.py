@@ -39,7 +39,7 @@ class Names(unittest.TestCase):
         self.assert_declared(names, all_of("crates/rules/specs/*.antt") + all_of("crates/rules/src/*.rt"))
 
     def test_the_statements_name_theorems(self):
-        names = named(section("The ten statements that matter"))
+        names = named(section("The statements that matter"))
         self.assertIn("every-output", names)
         code = "".join(all_of("crates/%s/src/*.rt" % crate) for crate in ["engine", "card", "trace"])
         self.assert_declared(names, all_of("crates/rules/proofs/*.antt") + all_of("crates/trace/proofs/*.antt") + code)

@@ -82,8 +82,8 @@ reachable model l = record {
 -- ---- The switches of a reachable module, by output from 0
 
 -- R of a switch: (off − on) mod SF of its first pair, unmoved
-abbrev pub lengthOf : Programming → ℕ → ℕ
-lengthOf p n = ahead (scaleFactor (p .setup)) (onSetpoint (limitOf p n) 0) (offSetpoint (limitOf p n) 0)
+abbrev pub trainLength : Programming → ℕ → ℕ
+trainLength p n = ahead (scaleFactor (p .setup)) (onSetpoint (limitOf p n) 0) (offSetpoint (limitOf p n) 0)
 
 -- its first pair is used; "0/0 is unused"
 abbrev pub firstUsed : Programming → ℕ → Bool
@@ -97,11 +97,11 @@ module _ (model : Model) (l : List Call) (n : ℕ) where
   first s e = rw e at (reachable model l .programming .limits n .switch)
 
   -- "Q pulses of K counts, both at least 1", and R ≥ Q × K + Q − 1
-  pub used-pulse : (q k : ℕ) → limitSwitch (limitOf p n) ≡ Pulse q k → firstUsed p n ≡ true → (1 ≤ q) × (1 ≤ k) × (q * k + q - 1 ≤ lengthOf p n)
+  pub used-pulse : (q k : ℕ) → limitSwitch (limitOf p n) ≡ Pulse q k → firstUsed p n ≡ true → (1 ≤ q) × (1 ≤ k) × (q * k + q - 1 ≤ trainLength p n)
   used-pulse q k e u = first (Pulse q k) e u
 
   -- so R − K and Q − 1 of "floor(j × (R − K) / (Q − 1))" are the plain differences
-  pub plain-pulse : (q k : ℕ) → limitSwitch (limitOf p n) ≡ Pulse q k → firstUsed p n ≡ true → (k ≤ lengthOf p n) × (1 ≤ q)
+  pub plain-pulse : (q k : ℕ) → limitSwitch (limitOf p n) ≡ Pulse q k → firstUsed p n ≡ true → (k ≤ trainLength p n) × (1 ≤ q)
   plain-pulse q k e u =
       let f = used-pulse q k e u in
       let a = f .0 in

@@ -20,6 +20,8 @@ def read(*path):
 
 
 HANDBOOK = read("docs", "HANDBOOK.md")
+# Its sentences, however they are wrapped.
+SENTENCES = " ".join(HANDBOOK.split())
 HEADER = read("crates", "card", "include", "chimneyrye.h")
 
 
@@ -142,6 +144,7 @@ class Words(unittest.TestCase):
             self.assertEqual(clause(text, "detectorBad").strip(), "ltb %d low || ltb %d high || (eqb low high && not (eqb low 0))" % (numbers(rows[word][2])[1], numbers(rows[word][2])[1]))
         most_multiplier, (least_divisor, most_divisor), most_code = numbers(rows["8"][2])[1], numbers(rows["9"][2]), numbers(rows["10"][2])[1]
         self.assertEqual(least_divisor, 1)
+        self.assertEqual([numbers(rows[word][2])[0] for word in "4 5 6 7 8 10".split()], [0] * 6)
         self.assertEqual(
             clause(text, "scalarsBad").strip(), "ltb %d multiplier || eqb divisor 0 || ltb %d divisor || ltb %d code" % (most_multiplier, most_divisor, most_code)
         )
@@ -230,13 +233,18 @@ class Words(unittest.TestCase):
         self.assertIn("duration", rows["5"][2])
         self.assertIn("onadvance = advanceOf (word b 1)", clause(text, "limitOfBlock"))
         self.assertEqual([cell.split(" (")[0] for cell in rows["1"] + rows["2"]], ["ON advance"] * 3 + ["OFF advance"] * 3)
+        self.assertIn("(word b (2 * k + 3)) (word b (2 * k + 4))", clause(text, "blockPairBad"))
+        self.assertEqual([rows[word][0] for word in "3456"], ["ON 1", "OFF 1", "ON 2", "OFF 2"])
+        self.assertEqual(rows["7–18"][0], "ON 3, OFF 3 to ON 8, OFF 8")
         ranges = {row[0]: row[1] for row in table("value", "M1: limit words")}
+        self.assertEqual(numbers(ranges["advance"])[0], numbers(ranges["advance"])[1])
+        self.assertEqual(numbers(ranges["duration T"])[0], 1)
         self.assertEqual(clause(text, "advanceBad").strip(), "ltb %d (natAbs (signedWord w))" % numbers(ranges["advance"])[1])
         self.assertIn("eqb (word b 5) 0 || ltb %d (word b 5)" % numbers(ranges["duration T"])[1], clause(text, "lengthBad"))
         low, shown, shown_hex = re.search(r"−(\d+) is (\d+) \(([0-9A-F]+)h\)", ranges["advance"]).groups()
         self.assertEqual((65536 - int(low), int(shown_hex, 16)), (int(shown), int(shown)))
         self.assertIn("leb 4 (countOf", clause(text, "fifthTimed"))
-        self.assertIn("At most four real and four virtual outputs may be timed.", HANDBOOK)
+        self.assertIn("At most four real and four virtual outputs may be timed.", SENTENCES)
 
     def test_limit_status_bits(self):
         text, rows = rules("LimitWords"), table("bit of word 630")
@@ -258,8 +266,8 @@ class Words(unittest.TestCase):
         self.assertEqual(spare_bits(rows), {int(bit) for bit in re.findall(r"bit w (\d+)", clause(text, "nudgeOutputBad"))})
         self.assertEqual(used_bits(rows) | spare_bits(rows), set(range(16)))
         transmit, on, off, down = (1 << constant(*of) for of in [(rules("Cycle"), "transmitBit"), (text, "onBit"), (text, "offBit"), (text, "downBit")])
-        self.assertIn("So %04Xh moves ON of pair 2 of output 3 up by one count, and %04Xh ON and OFF of it down" % (transmit + on + 32 + 2, transmit + on + off + down + 32 + 2), HANDBOOK)
-        self.assertIn("a nudge %04Xh, then 0" % (transmit + (1 << constant(text, "nudgeClearBit"))), HANDBOOK)
+        self.assertIn("So %04Xh moves ON of pair 2 of output 3 up by one count, and %04Xh ON and OFF of it down" % (transmit + on + 32 + 2, transmit + on + off + down + 32 + 2), SENTENCES)
+        self.assertIn("a nudge %04Xh, then 0" % (transmit + (1 << constant(text, "nudgeClearBit"))), SENTENCES)
 
 
     def test_bits_stand_in_one_row_each(self):
@@ -309,16 +317,16 @@ class Cycles(unittest.TestCase):
             self.assertEqual(numbers(file)[-1], of_file, name)
             self.assertEqual(int(command), commands[case], name)
             self.assertEqual(numbers(status), [statuses[case], statuses[case] + count - 1], name)
-        self.assertIn("M0 of %d words" % lengths["m0Length"], HANDBOOK)
-        self.assertIn("M1 of %d words" % lengths["m1Length"], HANDBOOK)
+        self.assertIn("M0 of %d words" % lengths["m0Length"], SENTENCES)
+        self.assertIn("M1 of %d words" % lengths["m1Length"], SENTENCES)
 
     def test_number_of_status_words(self):
         text = rules("FileCycle")
         self.assertRegex(text, r"(?m)^statusWords SetupCycle .*∷ replicate 8 0$")
         self.assertRegex(text, r"(?m)^statusWords LimitCycle .*∷ replicate 18 0$")
-        self.assertIn("Words 102 to 109 are 0.", HANDBOOK)
-        self.assertIn("Words 118 and 119 are 0.", HANDBOOK)
-        self.assertIn("Words 632 to 649 are 0.", HANDBOOK)
+        self.assertIn("Words 102 to 109 are 0.", SENTENCES)
+        self.assertIn("Words 118 and 119 are 0.", SENTENCES)
+        self.assertIn("Words 632 to 649 are 0.", SENTENCES)
 
     def test_errors_and_their_refusals(self):
         defined = {refusal: re.search(r"(\w+) = true", record)[1] for refusal, record in re.findall(r"^errorOf (\w+) e = record \{(.*)\}$", rules("Cycle"), re.M)}
@@ -357,7 +365,7 @@ class Cycles(unittest.TestCase):
         most = int(re.search(r"^allowed n = ltb 0 n && leb n (\d+)$", read("crates", "df1", "specs", "Frame.antt"), re.M)[1])
         self.assertIn("of over %d" % most, causes["15"])
         self.assertIn("1 to %d data bytes" % most, causes["17"])
-        self.assertIn("A frame has %d to %d bytes." % (1 + 5, 2 * most + 5), HANDBOOK)
+        self.assertIn("A frame has %d to %d bytes." % (1 + 5, 2 * most + 5), SENTENCES)
 
 
 class Steps(unittest.TestCase):
@@ -421,12 +429,12 @@ class Steps(unittest.TestCase):
             self.assertIn("× 60000 / (1024 × %s)" % time, rows[name][1])
         self.assertIn("natAbs c * 60000) (1024 * windowTime fast)", clause(text, "rpmOf"))
         most = int(re.search(r"cond \(ltb (\d+) \(tachValue", clause(text, "tachShown"))[1])
-        self.assertIn("Above %d it reads %d and TachOv is set" % (most, most), HANDBOOK)
+        self.assertIn("Above %d it reads %d and TachOv is set" % (most, most), SENTENCES)
         self.assertEqual({row[0]: row[1] for row in table("field of the header")}["`tach`"], "tachometer, 0 to %d" % most)
         self.assertIn("(pos 245760)", clause(rules("Switches"), "advanceShift"))
-        self.assertIn("s = a × c × SF / 245760", HANDBOOK)
+        self.assertIn("s = a × c × SF / 245760", SENTENCES)
         self.assertEqual(clause(rules("Switches"), "timedSteps").strip(), "5 * t")
-        self.assertIn("(5 × T steps)", HANDBOOK)
+        self.assertIn("(5 × T steps)", SENTENCES)
 
     def test_tachometer_example(self):
         self.assertEqual(table("code"), [["tachometer"] + [str((2 * 200 + 3 * 10**code) // (2 * 3 * 10**code)) for code in range(4)]])
@@ -447,7 +455,7 @@ class Traces(unittest.TestCase):
     def test_largest_trace(self):
         counts = cases(rules("Trace"), "sectionCount")
         largest = 2 * (2 + sum(1 + count for count in counts.values()) + 1 + 9 * 65535)
-        self.assertIn("The largest whole trace has %s bytes" % format(largest, ","), HANDBOOK)
+        self.assertIn("The largest whole trace has %s bytes" % format(largest, ","), SENTENCES)
 
     def test_the_example_in_bytes_is_the_stored_trace(self):
         with open(os.path.join(ROOT, "tests", "traces", "example.trace"), "rb") as file:
@@ -461,7 +469,7 @@ class Traces(unittest.TestCase):
     def test_the_frame_of_the_example(self):
         data = bytes.fromhex("01 10 41")
         frame = b"\x10\x02" + data.replace(b"\x10", b"\x10\x10") + b"\x10\x03" + bytes([-sum(data) % 256])
-        self.assertIn("`%s`" % frame.hex(" "), HANDBOOK)
+        self.assertIn("`%s`" % frame.hex(" "), SENTENCES)
 
 
 def fields(name):

@@ -26,7 +26,7 @@ limitBlock file n = table 19 0 (λ k. word file (blockAt n + k))
 
 -- ---- The 19 words of a block
 
--- control: "15 ANDing with LS Enable, 14–13 detector 0 to 2, 1–0 type 0 to 2 for normal, pulse, timed"
+-- control: "bit 15 enable, 14–13 detector 0 to 2, 1–0 type 0 to 2 for normal, pulse, timed; others zero"
 abbrev pub enableBit : ℕ
 enableBit = 15
 

@@ -5,12 +5,12 @@ mod groups;
 mod outputs;
 
 ghost use mathlib.Core.Path.{_≡_};
-ghost use mathlib.Core.Bool.{true, false};
 ghost use lib.ListN.{replicate};
 ghost use Rattle.rules.specs.Words as words;
 ghost use Rattle.rules.specs.Cycle as cycle;
 ghost use Rattle.rules.specs.Calls as calls;
 ghost use Rattle.rules.specs.Card as card;
+ghost use Rattle.engine.specs.Parts.{soundChange, faultChange};
 use crate::answer::answer_of;
 use crate::answer::output_words;
 use crate::conditions::conditions_of;
@@ -74,8 +74,7 @@ fn since_after(p: Programming, w: Conditions, speed: Speed, x: SinceStart) -> Si
 
 // A step that is not answered 11.
 fn sound_step(m: Module, s: Sample) -> Change
-    requires { ⌜ calls.sound (m .configuration) s ≡ true ⌝ }
-    ensures { λ r. ⌜ (r .state ≡ card.stepState (m .configuration) (m .state) s) × (r .answer ≡ card.stepAnswer (m .configuration) (m .state) s) × (r .raw ≡ s .raw) × (r .fault ≡ m .configuration .fault) ⌝ }
+    ensures { λ r. ⌜ r ≡ soundChange (m .configuration) (m .state) s ⌝ }
 {
     let g = m.configuration;
     let p = m.configuration.programming;
@@ -124,8 +123,7 @@ fn timed_at_rest(xs: [TimedState; 32]) -> [TimedState; 32]
 // A step that is answered 11: it latches the fault, and is a module start. The fresh state is written here and not in a function of its own: the
 // compiler then does not copy the module in every step.
 fn fault_step(m: Module, s: Sample) -> Change
-    requires { ⌜ calls.sound (m .configuration) s ≡ false ⌝ }
-    ensures { λ r. ⌜ (r .state ≡ card.stepState (m .configuration) (m .state) s) × (r .answer ≡ card.stepAnswer (m .configuration) (m .state) s) × (r .raw ≡ m .configuration .raw) × (r .fault ≡ true) ⌝ }
+    ensures { λ r. ⌜ r ≡ faultChange (m .configuration) (m .state) s ⌝ }
 {
     let g = m.configuration;
     let u = m.configuration.programming.setup;

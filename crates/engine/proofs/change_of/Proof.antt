@@ -2,9 +2,29 @@
 use mathlib.Core.Bool.{true, false, and-false}
 use mathlib.Core.Path.{_≡_}
 use borrow.Author.Tests.{le-leb, lt-leb}
+use Rattle.rules.specs.declared.Configuration.{Configuration}
+use Rattle.rules.specs.declared.State.{State}
+use Rattle.rules.specs.declared.Sample.{Sample}
+use Rattle.rules.specs.Cycle.{withFault, withRaw}
 use Rattle.rules.specs.Calls.{sound, stepConfiguration}
+use Rattle.rules.specs.Card.{outputsNow, sinceNow, keptNow, stepState, stepAnswer}
+use Rattle.engine.specs.declared.Change.{Change}
+use Rattle.engine.specs.Parts.{ruledOutputs, darkOutputs, soundChange, faultChange}
 use Rattle.engine.proofs.change_of.Statement.{statement}
 use Rattle.engine.proofs.change_of.Tie as tie
+
+-- a change is that of 01's step
+abbrev Steps : Configuration → State → Sample → Change → Type 0
+Steps g x s r =
+    (r .state ≡ stepState g x s) × (r .answer ≡ stepAnswer g x s) × (withFault (withRaw g (r .raw)) (r .fault) ≡ stepConfiguration g s)
+
+sound-steps : (g : Configuration) (x : State) (s : Sample) → sound g s ≡ true → Steps g x s (soundChange g x s)
+unfolding soundChange ruledOutputs stepState sinceNow keptNow stepAnswer outputsNow stepConfiguration
+sound-steps g x s e = (rw e, rw e, rw e)
+
+fault-steps : (g : Configuration) (x : State) (s : Sample) → sound g s ≡ false → Steps g x s (faultChange g x s)
+unfolding faultChange darkOutputs stepState sinceNow keptNow stepAnswer outputsNow stepConfiguration
+fault-steps g x s e = (rw e, rw e, rw e)
 
 latched : (c : tie.Then1) → sound (c .before .args .m .configuration) (c .before .args .s) ≡ false
 unfolding sound
@@ -19,25 +39,22 @@ unfolding sound
 unharmed c = rw (le-leb _ _ (c .if2 .left), c .before .before .if1 .left)
 
 fault-step-requires : tie.Need-fault-step-requires
-fault-step-requires c κs = latched c
+fault-step-requires c κs = tt
 
 returns : tie.Need-returns
-unfolding stepConfiguration
-returns c = let e = c .fault-step .ensures in (e .0, e .1, rw (e .2, e .3, latched (c .before)))
+returns c = rw (c .fault-step .ensures) (fault-steps _ _ _ (latched (c .before)))
 
 fault-step-requires-2 : tie.Need-fault-step-requires-2
-fault-step-requires-2 c κs = over c
+fault-step-requires-2 c κs = tt
 
 returns-2 : tie.Need-returns-2
-unfolding stepConfiguration
-returns-2 c = let e = c .fault-step2 .ensures in (e .0, e .1, rw (e .2, e .3, over (c .before)))
+returns-2 c = rw (c .fault-step2 .ensures) (fault-steps _ _ _ (over (c .before)))
 
 sound-step-requires : tie.Need-sound-step-requires
-sound-step-requires c κs = unharmed c
+sound-step-requires c κs = tt
 
 returns-3 : tie.Need-returns-3
-unfolding stepConfiguration
-returns-3 c = let e = c .sound-step .ensures in (e .0, e .1, rw (e .2, e .3, unharmed (c .before)))
+returns-3 c = rw (c .sound-step .ensures) (sound-steps _ _ _ (unharmed (c .before)))
 
 pub change-of-spec : {M : Type 1} → statement M
 change-of-spec =

@@ -1,6 +1,7 @@
 -- `engine::fault_step` meets its contract: the calls put together. Assumes nothing.
-use mathlib.Core.Path.{_≡_, refl}
-use Rattle.rules.specs.Card.{outputsNow, moduleStart, sinceNow, keptNow, stepState, stepAnswer}
+use mathlib.Core.Path.{_≡_}
+use Rattle.rules.specs.Card.{moduleStart}
+use Rattle.engine.specs.Parts.{darkOutputs, faultChange}
 use Rattle.engine.proofs.Words.{words-none}
 use Rattle.engine.proofs.fault_step.Statement.{statement}
 use Rattle.engine.proofs.fault_step.Tie as tie
@@ -9,11 +10,9 @@ use Rattle.engine.proofs.fault_step.Tie as tie
 both : (c : tie.After-output-words) →
     (let w = c .before .before in
     let a = w .before .before .before .before .before .args in
-    c .output-words .result ≡ outputsNow (a .m .configuration) (a .m .state .since) (a .s))
-unfolding outputsNow
-both c =
-    let i = c .before .before .before .before .before .before in
-    rw (c .output-words .ensures, c .before .model-of .ensures, i .before .pre) (words-none _ _)
+    c .output-words .result ≡ darkOutputs (a .m .configuration) (a .s))
+unfolding darkOutputs
+both c = rw (c .output-words .ensures, c .before .model-of .ensures) (words-none _ _)
 
 fault-conditions-requires : tie.Need-fault-conditions-requires
 fault-conditions-requires c κs = tt
@@ -31,15 +30,10 @@ timed-at-rest-requires : tie.Need-timed-at-rest-requires
 timed-at-rest-requires c κs = tt
 
 returns : tie.Need-returns
-unfolding moduleStart stepState sinceNow keptNow stepAnswer
+unfolding moduleStart faultChange
 returns c =
     let o = c .before .before in
-    let i = o .before .before .before .before .before .before in (
-      rw (c .timed-at-rest .ensures, both o, i .before .pre),
-      rw (c .before .answer-of .ensures, both o, o .before .before .fault-conditions .ensures, i .before .pre),
-      refl,
-      refl,
-    )
+    rw (c .timed-at-rest .ensures, c .before .answer-of .ensures, both o, o .before .before .fault-conditions .ensures)
 
 pub fault-step-spec : {M : Type 1} → statement M
 fault-step-spec =

@@ -1,10 +1,11 @@
 -- `engine::sound_step` meets its contract: the calls put together. Assumes nothing.
 use mathlib.Core.Path.{_≡_, refl}
 use Rattle.rules.specs.Motion.{conditions, machineAt}
-use Rattle.rules.specs.Card.{conditionsNow, outputsNow, sinceNow, keptNow, stepState, stepAnswer}
+use Rattle.rules.specs.Card.{conditionsNow}
 use Rattle.rules.specs.declared.Configuration.{Configuration}
 use Rattle.rules.specs.declared.SinceStart.{SinceStart}
 use Rattle.rules.specs.declared.Sample.{Sample}
+use Rattle.engine.specs.Parts.{ruledOutputs, soundChange}
 use Rattle.engine.proofs.Words.{words-packed}
 use Rattle.engine.proofs.sound_step.Statement.{statement}
 use Rattle.engine.proofs.sound_step.Tie as tie
@@ -23,12 +24,10 @@ conditioned c = rw (c .conditions-of .ensures, c .before .speed-now .ensures)
 both : (c : tie.After-output-words) →
     (let k = c .before .before .before in
     let a = k .before .before .before .before .before .before .args in
-    c .output-words .result ≡ outputsNow (a .m .configuration) (a .m .state .since) (a .s))
-unfolding outputsNow
+    c .output-words .result ≡ ruledOutputs (a .m .configuration) (a .m .state .since) (a .s))
+unfolding ruledOutputs
 both c =
-    let k = c .before .before .before in
-    let i = k .before .before .before .before .before .before in
-    rw (c .output-words .ensures, c .before .model-of .ensures, c .before .before .since-after .ensures .1, conditioned k, i .pre)
+    rw (c .output-words .ensures, c .before .model-of .ensures, c .before .before .since-after .ensures .1, conditioned (c .before .before .before))
     (words-packed _ _ _)
 
 speed-now-requires : tie.Need-speed-now-requires
@@ -50,16 +49,18 @@ answer-of-requires : tie.Need-answer-of-requires
 answer-of-requires c κs = tt
 
 returns : tie.Need-returns
-unfolding stepState sinceNow keptNow stepAnswer
+unfolding soundChange
 returns c =
     let o = c .before .before .before in
     let k = o .before .before .before in
-    let i = k .before .before .before .before .before .before in
-    let a = i .args in (
-      rw (both o, o .before .before .since-after .ensures .0, conditioned k, k .before .speed-now .ensures, machine-is (a .m .configuration) (a .m .state .since) (a .s), i .pre),
-      rw (c .before .before .answer-of .ensures, both o, conditioned k, i .pre),
-      refl,
-      refl,
+    let a = k .before .before .before .before .before .before .args in
+    rw (
+      c .before .before .answer-of .ensures,
+      both o,
+      o .before .before .since-after .ensures .0,
+      conditioned k,
+      k .before .speed-now .ensures,
+      machine-is (a .m .configuration) (a .m .state .since) (a .s),
     )
 
 pub sound-step-spec : {M : Type 1} → statement M

@@ -1,18 +1,18 @@
 -- Laws of frames: data doubled and read again, sums, runs of stores, and the tests that tell a frame.
 -- Assumes nothing.
-use Prim.Native.Nat.{ℕ, suc, _+_, _-_, _%_, _<_, _≤_}
+use Prim.Native.Nat.{ℕ, suc, _+_, _-_, _%_, _<_, _≤_, min}
 use mathlib.Core.Bool.{Bool, true, false, cond, not, _&&_, false≢true}
 use mathlib.Core.List.{List, [], _∷_, _++_}
 use mathlib.Core.Path.{_≡_, refl, sym, ap, _∙_}
 use native.Mathlib.Omega.{arith}
 use native.Mathlib.Numerals.{add-one}
 use native.Mathlib.Nat.{add-zero}
-use lib.ListN.{length, getD, drop, set, drop-of-length-le}
-use lib.Seq.{sets, sets-eq, drop-cons, drop-drop, drop-length}
-use lib.Dec.{eqb}
-use borrow.Author.Tests.{eqb-true, eq-eqb, ne-eqb}
-use Rattle.df1.specs.Frame.{dle, stx, etx, sent, doubled, sumOf, checkByte, frameOf, undoubled, same}
-use Rattle.df1.specs.Parts.{dleCount, paired}
+use lib.ListN.{length, getD, drop, set, drop-of-length-le, length-append}
+use lib.Seq.{sets, sets-eq, length-sets, set-out, drop-cons, drop-drop, drop-length}
+use lib.Dec.{leb, eqb}
+use borrow.Author.Tests.{leb-true, leb-false, eqb-true, eq-eqb, ne-eqb}
+use Rattle.df1.specs.Frame.{dle, sent, doubled, sumOf, undoubled, same}
+use Rattle.df1.specs.Parts.{dleCount, paired, Written}
 
 -- ---- Tests
 
@@ -183,14 +183,40 @@ sets-start out a h =
     let e : 0 + length a ≡ length a = omega arith in
     rw e at (sets-eq a out 0 (omega arith))
 
--- the stores of the writer are a frame's
-pub frame-stores : (out bytes body : List ℕ) (end : ℕ) → body ≡ sets (set (set out 0 dle) 1 stx) 2 (doubled bytes) → end ≡ 2 + length (doubled bytes)
-    → sets (set (set body end dle) (end + 1) etx) (end + 2) (checkByte bytes ∷ []) ≡ sets out 0 (frameOf bytes)
-unfolding frameOf
-frame-stores out bytes body end b e =
-    let one : end + 1 ≡ suc end = omega arith in
-    let two : end + 2 ≡ suc (suc end) = omega arith in
-    rw (one, two, b, e) (sym (sets-append (set (set out 0 dle) 1 stx) 2 (doubled bytes) (dle ∷ etx ∷ checkByte bytes ∷ [])))
+-- past the end nothing is stored
+pub sets-past : (out : List ℕ) (at : ℕ) (a : List ℕ) → length out ≤ at → sets out at a ≡ out
+sets-past out at [] h = refl
+sets-past out at (x ∷ a) h = rw (set-out out at x h) (sets-past out (suc at) a (omega arith))
+
+-- more bytes from the place after the first
+module _ (before : List ℕ) (at : ℕ) (a b : List ℕ) where
+  abbrev cut : ℕ
+  cut = at + min (length a) (length before - at)
+
+  sets-then : sets (sets before at a) cut b ≡ sets before at (a ++ b)
+  sets-then = go (leb (at + length a) (length before)) refl
+    where
+      go : (t : Bool) → leb (at + length a) (length before) ≡ t → sets (sets before at a) cut b ≡ sets before at (a ++ b)
+      go true e =
+          let h = leb-true (at + length a) (length before) e in
+          let p : cut ≡ at + length a = omega arith in
+          rw p (sym (sets-append before at a b))
+      go false e =
+          let h = leb-false (at + length a) (length before) e in
+          let l = length-sets before at a in
+          sets-past (sets before at a) cut b (omega arith) ∙ sym (sets-past (sets before at a) (at + length a) b (omega arith)) ∙ sym (sets-append before at a b)
+
+pub written-none : (before : List ℕ) (at : ℕ) → Written [] at before before at
+written-none before at = record { stored = refl; place = omega arith }
+
+pub written-past : (bytes before : List ℕ) (at : ℕ) → length before ≤ at → Written bytes at before before at
+written-past bytes before at h = record { stored = sym (sets-past before at bytes h); place = omega arith }
+
+pub written-then : {a b before middle after : List ℕ} {at next last : ℕ} → Written a at before middle next → Written b next middle after last → Written (a ++ b) at before after last
+written-then {a} {b} {before} {middle} {after} {at} {next} {last} h k = record {
+  stored = k .stored ∙ rw (h .stored, h .place) (sets-then before at a b);
+  place = omega (arith, h .place, k .place, length-append a b, ap length (h .stored), length-sets before at a);
+}
 
 -- ---- Two byte strings are the same
 

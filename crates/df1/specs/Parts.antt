@@ -1,9 +1,11 @@
 -- The parts in which the code reckons the definitions of Frame: how many DLEs data have, and the tests that tell a frame. proofs/Laws.antt and proofs/Parts.antt tie them to Frame.
 -- Assumes nothing.
-use Prim.Native.Nat.{ℕ, _+_, _-_}
+use Prim.Native.Nat.{ℕ, _+_, _-_, min}
 use mathlib.Core.Bool.{Bool, true, cond, not, _&&_}
+use mathlib.Core.Path.{_≡_}
 use mathlib.Core.List.{List, [], _∷_}
 use lib.ListN.{length, getD}
+use lib.Seq.{sets}
 use lib.Dec.{leb, eqb}
 use Rattle.df1.specs.declared.Scan.{Scan}
 use Rattle.df1.specs.Frame.{dle, stx, etx, sumOf, undoubled, isFrame, dataOf}
@@ -32,3 +34,8 @@ scanOf body = cond (paired body) (record { count = length (undoubled body); sum 
 -- the number of data bytes of a frame; 0 where the input is none
 unfoldable pub foundLength : List ℕ → ℕ
 foundLength input = cond (isFrame input) (length (dataOf input)) 0
+
+-- a buffer before and after bytes are put into it from a place on, and the place after them; where the buffer ends they are cut
+pub record Written (bytes : List ℕ) (at : ℕ) (before after : List ℕ) (next : ℕ) : Type 0 where
+  pub stored : after ≡ sets before at bytes
+  pub place : next ≡ at + min (length bytes) (length before - at)

@@ -10,7 +10,6 @@ use crate::fitting;
 use crate::is_allowed;
 use crate::refused;
 ghost use mathlib.Core.Path.{_≡_};
-ghost use Prim.Native.Nat.{_≤_};
 ghost use lib.ListN.{length};
 ghost use lib.Seq.{sets};
 ghost use Rattle.df1.specs.Frame as frame;
@@ -84,9 +83,8 @@ fn data_length(input: &[u8]) -> usize
     s.count
 }
 
-// The data of a body at the buffer's start; the second of two DLEs is passed over.
+// The data of a body at the buffer's start, cut at its end; the second of two DLEs is passed over.
 fn put_data(out: &mut [u8], body: &[u8])
-    requires { ⌜ length (frame.undoubled (now body)) ≤ length (now out) ⌝ }
     ensures { λ r. ⌜ now (out .exit) ≡ sets (now (out .entry)) 0 (frame.undoubled (now (body .entry))) ⌝ }
 {
     let mut place: usize = 0;
@@ -98,6 +96,9 @@ fn put_data(out: &mut [u8], body: &[u8])
         if second {
             second = false;
             continue;
+        }
+        if out.len() <= place {
+            return;
         }
         out[place] = b;
         place = place + 1;

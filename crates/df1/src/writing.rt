@@ -11,11 +11,10 @@ use crate::refused;
 ghost use mathlib.Core.Path.{_≡_};
 ghost use mathlib.Core.Bool.{cond};
 ghost use mathlib.Core.List.{List, [], _∷_};
-ghost use Prim.Native.Nat.{_+_, _≤_};
 ghost use lib.ListN.{length};
 ghost use lib.Seq.{sets};
 ghost use Rattle.df1.specs.Frame as frame;
-ghost use Rattle.df1.specs.Parts.{dleCount};
+ghost use Rattle.df1.specs.Parts.{dleCount, Written};
 
 // How many of the bytes are a DLE.
 fn dle_count(bytes: &[u8]) -> usize
@@ -47,46 +46,47 @@ fn check_byte(bytes: &[u8]) -> u8
     complement(sum)
 }
 
-// A byte at a place, or twice from there on; the place after it.
-fn put(out: &mut [u8], at: usize, b: u8, twice: bool) -> usize
-    requires { ⌜ at + length (cond twice (b ∷ b ∷ []) (b ∷ [])) ≤ length (now out) ⌝ }
-    ensures { λ r. ⌜ (now (out .exit) ≡ sets (now (out .entry)) at (cond twice (b ∷ b ∷ []) (b ∷ []))) × (r ≡ at + length (cond twice (b ∷ b ∷ []) (b ∷ []))) ⌝ }
+// A byte at a place, or two from there on; where the buffer ends they are cut. The answer is the place after them.
+fn put(out: &mut [u8], at: usize, a: u8, b: u8, two: bool) -> usize
+    ensures { λ r. ⌜ Written (cond two (a ∷ b ∷ []) (a ∷ [])) at (now (out .entry)) (now (out .exit)) r ⌝ }
 {
-    out[at] = b;
-    if twice {
-        out[at + 1] = b;
-        return at + 2;
+    if out.len() <= at {
+        return at;
     }
-    at + 1
+    out[at] = a;
+    if !two {
+        return at + 1;
+    }
+    if out.len() <= at + 1 {
+        return at + 1;
+    }
+    out[at + 1] = b;
+    at + 2
 }
 
-// Data from a place on, each DLE twice; the place after them.
+// Data from a place on, each DLE twice, cut at the buffer's end; the place after them.
 fn put_doubled(out: &mut [u8], at: usize, bytes: &[u8]) -> usize
-    requires { ⌜ at + length (frame.doubled (now bytes)) ≤ length (now out) ⌝ }
-    ensures { λ r. ⌜ (now (out .exit) ≡ sets (now (out .entry)) at (frame.doubled (now (bytes .entry)))) × (r ≡ at + length (frame.doubled (now (bytes .entry)))) ⌝ }
+    ensures { λ r. ⌜ Written (frame.doubled (now (bytes .entry))) at (now (out .entry)) (now (out .exit)) r ⌝ }
 {
     let mut place = at;
     let mut k: usize = 0;
     while k < bytes.len() {
         let b = bytes[k];
-        place = put(out, place, b, b == DLE);
+        place = put(out, place, b, b, b == DLE);
         k = k + 1;
     }
     place
 }
 
-// The frame of data at the buffer's start. The check byte is never doubled.
+// The frame of data at the buffer's start, cut at its end. The check byte is never doubled.
 fn put_frame(out: &mut [u8], bytes: &[u8])
-    requires { ⌜ length (frame.frameOf (now bytes)) ≤ length (now out) ⌝ }
     ensures { λ r. ⌜ now (out .exit) ≡ sets (now (out .entry)) 0 (frame.frameOf (now (bytes .entry))) ⌝ }
 {
     let check = check_byte(bytes);
-    out[0] = DLE;
-    out[1] = STX;
-    let end = put_doubled(out, 2, bytes);
-    out[end] = DLE;
-    out[end + 1] = ETX;
-    put(out, end + 2, check, false);
+    let start = put(out, 0, DLE, STX, true);
+    let end = put_doubled(out, start, bytes);
+    let last = put(out, end, DLE, ETX, true);
+    put(out, last, check, check, false);
 }
 
 // Puts the frame of 1 to 244 data bytes at the start of a lent buffer and leaves the rest. A refused call leaves all of it.

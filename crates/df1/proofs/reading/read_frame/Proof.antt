@@ -83,8 +83,7 @@ part-put-data-end : tie.Need-part-put-data-end
 part-put-data-end c = search needs
 
 put-data-requires : tie.Need-put-data-requires
-unfolding dataOf
-put-data-requires c κs = rw (← inside-part (inputOf (frameThen (c .before .before)))) at (whole (c .before .before) .1)
+put-data-requires c κs = search needs
 
 same-length : tie.Need-same-length
 same-length c = search needs

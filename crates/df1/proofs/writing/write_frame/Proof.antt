@@ -79,7 +79,7 @@ returns-2 c =
     (h ∙ rw w, rw (w, o))
 
 put-frame-requires : tie.Need-put-frame-requires
-put-frame-requires c κs = whole (c .before) .1
+put-frame-requires c κs = search needs
 
 same-length : tie.Need-same-length
 same-length c = search needs

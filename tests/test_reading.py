@@ -5,6 +5,7 @@ import re
 import unittest
 
 ROOT = os.path.join(os.path.dirname(os.path.abspath(__file__)), "..")
+CRATES = set(os.listdir(os.path.join(ROOT, "crates")))
 
 
 def read(path):
@@ -21,17 +22,27 @@ def section(title):
     return text.split("\n## " + title + "\n", 1)[1].split("\n## ", 1)[0]
 
 
+def quoted(text):
+    """The names in a text, each part of a path by itself."""
+    return {name for words in re.findall(r"`([^`]+)`", text) for name in re.findall(r"[A-Za-z][\w-]*", words) if "/" not in words}
+
+
 def named(text):
-    """The names in a table's rows, each part of a path by itself."""
-    rows = [line for line in text.splitlines() if line.startswith("|")]
-    quoted = re.findall(r"`([^`]+)`", "\n".join(rows))
-    return {name for words in quoted for name in re.findall(r"[A-Za-z][\w-]*", words) if "/" not in words}
+    """The names in a table's rows."""
+    return quoted("\n".join(line for line in text.splitlines() if line.startswith("|")))
+
+
+def declared(text):
+    """The names that a text declares: in specs and proofs what is `pub`, in code functions, types with their cases and fields, constants, modules."""
+    antt = re.findall(r"^ *(?:(?:abbrev|unfoldable) )?pub (?:(?:record|data) )?([A-Za-z][\w′-]*)(?= [:({])", text, re.MULTILINE)
+    code = re.findall(r"^ *(?:pub )?(?:extern \"C\" )?(?:fn|struct|enum|const|mod|impl) (\w+)", text, re.MULTILINE)
+    parts = re.findall(r"^ +(?:pub (\w+): .*|([A-Z]\w*)(?:\(.*\))?),$", text, re.MULTILINE)
+    return set(antt) | set(code) | {name for pair in parts for name in pair}
 
 
 class Names(unittest.TestCase):
     def assert_declared(self, names, text):
-        missing = [name for name in names if not re.search(r"(?<![\w·-])%s(?![\w·-])" % re.escape(name), text)]
-        self.assertEqual(missing, [])
+        self.assertEqual(sorted(names - declared(text) - CRATES), [])
 
     def test_the_clauses_of_01_name_definitions_of_the_rules(self):
         names = named(section("01 clause by clause"))
@@ -39,14 +50,14 @@ class Names(unittest.TestCase):
         self.assert_declared(names, all_of("crates/rules/specs/*.antt") + all_of("crates/rules/src/*.rt"))
 
     def test_the_statements_name_theorems(self):
-        names = named(section("The statements that matter"))
+        names = quoted(section("The statements that matter"))
         self.assertIn("every-output", names)
         code = "".join(all_of("crates/%s/src/*.rt" % crate) for crate in ["engine", "card", "trace"])
         self.assert_declared(names, all_of("crates/rules/proofs/*.antt") + all_of("crates/trace/proofs/*.antt") + code)
 
     def test_each_call_names_its_function_and_its_edits(self):
         edits = {os.path.splitext(os.path.basename(path))[0] for path in glob.glob(os.path.join(ROOT, "crates/*/must-fail/*.edit"))}
-        code = all_of("crates/*/src/*.rt") + all_of("crates/rules/specs/*.antt") + " ".join(os.listdir(os.path.join(ROOT, "crates")))
+        code = all_of("crates/*/src/*.rt") + all_of("crates/rules/specs/*.antt")
         for title in ["The public calls", "The exported calls"]:
             rows = [line for line in section(title).splitlines() if re.match(r"\| [`a-z]", line) and "`" in line]
             self.assertGreaterEqual(len(rows), 6)
@@ -63,12 +74,12 @@ class Names(unittest.TestCase):
         for row in [line for line in calls.splitlines() if "`df1::" in line]:
             self.assertGreaterEqual(len(named(row) & edits), 2, row)
         self.assertEqual(edits - named(calls), set())
-        self.assert_declared(named(calls) - edits - {"df1"}, all_of("crates/df1/src/*.rt") + all_of("crates/df1/specs/*.antt"))
+        self.assert_declared(named(calls) - edits, all_of("crates/df1/src/*.rt") + all_of("crates/df1/specs/*.antt"))
         self.assertGreater(len(named(theorems)), 15)
         self.assert_declared(named(theorems), all_of("crates/df1/proofs/*.antt"))
 
     def test_the_history_names_definitions(self):
-        self.assert_declared(named(section("The history, sentence by sentence")), all_of("crates/rules/specs/*.antt"))
+        self.assert_declared(named(section("The history, sentence by sentence")), all_of("crates/rules/specs/*.antt") + all_of("crates/rules/src/*.rt"))
 
 
 if __name__ == "__main__":

@@ -2,18 +2,20 @@
 use libc::STDIN_FILENO;
 use libc::STDOUT_FILENO;
 ghost use mathlib.Core.Path.{_≡_};
+ghost use Prim.Native.Nat.{_+_};
 ghost use lib.ListN.{length};
+ghost use Rattle.trace.specs.Sizes.{largestTrace, largestReport};
 
 // Room for the largest whole trace and one byte more, which tells a longer input.
 fn trace_space() -> [u8; trace::LARGEST_TRACE + 1]
-    ensures { λ r. ⌜ 1181103 ≡ length r ⌝ }
+    ensures { λ r. ⌜ largestTrace + 1 ≡ length r ⌝ }
 {
     [0; trace::LARGEST_TRACE + 1]
 }
 
 // Room for the longest report.
 fn report_space() -> [u8; trace::LARGEST_REPORT]
-    ensures { λ r. ⌜ 1835026 ≡ length r ⌝ }
+    ensures { λ r. ⌜ largestReport ≡ length r ⌝ }
 {
     [0; trace::LARGEST_REPORT]
 }

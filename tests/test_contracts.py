@@ -7,9 +7,14 @@ import unittest
 ROOT = os.path.join(os.path.dirname(os.path.abspath(__file__)), "..")
 
 
+def read(path):
+    with open(path, encoding="utf-8") as file:
+        return file.read()
+
+
 def files(pattern):
     found = sorted(glob.glob(os.path.join(ROOT, pattern), recursive=True))
-    return [(os.path.relpath(path, ROOT), open(path, encoding="utf-8").read()) for path in found]
+    return [(os.path.relpath(path, ROOT), read(path)) for path in found]
 
 
 def code(text):

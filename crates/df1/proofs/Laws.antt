@@ -212,6 +212,9 @@ written-none before at = record { stored = refl; place = omega arith }
 pub written-past : (bytes before : List ℕ) (at : ℕ) → length before ≤ at → Written bytes at before before at
 written-past bytes before at h = record { stored = sym (sets-past before at bytes h); place = omega arith }
 
+pub written-one : (b : ℕ) (before : List ℕ) (at : ℕ) → at < length before → Written (b ∷ []) at before (set before at b) (at + 1)
+written-one b before at h = record { stored = refl; place = omega arith }
+
 pub written-then : {a b before middle after : List ℕ} {at next last : ℕ} → Written a at before middle next → Written b next middle after last → Written (a ++ b) at before after last
 written-then {a} {b} {before} {middle} {after} {at} {next} {last} h k = record {
   stored = k .stored ∙ rw (h .stored, h .place) (sets-then before at a b);

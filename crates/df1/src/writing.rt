@@ -72,8 +72,20 @@ fn put_doubled(out: &mut [u8], at: usize, bytes: &[u8]) -> usize
     let mut k: usize = 0;
     while k < bytes.len() {
         let b = bytes[k];
-        place = put(out, place, b, b, b == DLE);
         k = k + 1;
+        if out.len() <= place {
+            return place;
+        }
+        out[place] = b;
+        place = place + 1;
+        if b != DLE {
+            continue;
+        }
+        if out.len() <= place {
+            return place;
+        }
+        out[place] = b;
+        place = place + 1;
     }
     place
 }

@@ -1,6 +1,6 @@
 -- `df1::writing::put` meets its contract: what has no room is not stored. Assumes nothing.
 use Prim.Native.Nat.{ℕ, suc, _+_, _≤_, _<_}
-use mathlib.Core.Path.{_≡_, refl, sym}
+use mathlib.Core.Path.{sym}
 use mathlib.Core.List.{List, [], _∷_}
 use lib.ListN.{length, set, length-set}
 use lib.Seq.{set-out}
@@ -9,14 +9,11 @@ use native.Mathlib.Omega.{arith}
 use borrow.Author.Needs.{needs}
 use borrow.Author.Tests.{not-true, not-false}
 use Rattle.df1.specs.Parts.{Written}
-use Rattle.df1.proofs.Laws.{written-past}
+use Rattle.df1.proofs.Laws.{written-past, written-one}
 use Rattle.df1.proofs.writing.put.Statement.{statement}
 use Rattle.df1.proofs.writing.put.Tie as tie
 
 module _ (out : List ℕ) (at a b : ℕ) where
-  one : at < length out → Written (a ∷ []) at out (set out at a) (at + 1)
-  one h = record { stored = refl; place = omega arith }
-
   first : at < length out → length (set out at a) ≤ at + 1 → Written (a ∷ b ∷ []) at out (set out at a) (at + 1)
   first h l = record { stored = sym (set-out (set out at a) (suc at) b (omega arith)); place = omega (arith, length-set out at a) }
 
@@ -38,7 +35,7 @@ same-length c = search needs
 returns-2 : tie.Need-returns-2
 returns-2 c =
     let x = c .before .before .args in
-    rw (not-true (x .two) (c .if2 .taken)) (one (x .out .now) (x .at) (x .a) (x .b) (c .before .if1 .left))
+    rw (not-true (x .two) (c .if2 .taken)) (written-one (x .a) (x .out .now) (x .at) (c .before .if1 .left))
 
 add-if3 : tie.Need-add-if3
 add-if3 c = search needs

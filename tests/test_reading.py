@@ -22,6 +22,10 @@ def section(title):
     return text.split("\n## " + title + "\n", 1)[1].split("\n## ", 1)[0]
 
 
+def section_before(title):
+    return read(os.path.join(ROOT, "docs", "READING.md")).split("\n## " + title + "\n", 1)[0]
+
+
 def quoted(text):
     """The names in a text, each part of a path by itself."""
     return {name for words in re.findall(r"`([^`]+)`", text) for name in re.findall(r"[A-Za-z][\w-]*", words) if "/" not in words}
@@ -53,7 +57,16 @@ class Names(unittest.TestCase):
         names = quoted(section("The statements that matter"))
         self.assertIn("every-output", names)
         code = "".join(all_of("crates/%s/src/*.rt" % crate) for crate in ["engine", "card", "trace"])
-        self.assert_declared(names, all_of("crates/rules/proofs/*.antt") + all_of("crates/trace/proofs/*.antt") + code)
+        theorems = named(section("The statements that matter"))
+        self.assert_declared(theorems, all_of("crates/rules/proofs/*.antt") + code)
+        self.assert_declared(names - theorems, all_of("crates/rules/*/*.antt") + all_of("crates/trace/proofs/*.antt"))
+
+    def test_the_words_of_the_statements_are_those_beside_the_theorems(self):
+        rows = [line.split("|") for line in section_before("The crates").splitlines() if line.startswith("| ") and "`" in line.split("|")[2]]
+        self.assertGreaterEqual(len(rows), 9)
+        for _, files, words, _ in rows:
+            text = "\n".join(read(os.path.join(ROOT, "crates/rules/proofs", file.strip() + ".antt")) for file in files.split(","))
+            self.assertEqual(sorted(quoted(words) - declared(text)), [], files)
 
     def test_each_call_names_its_function_and_its_edits(self):
         edits = {os.path.splitext(os.path.basename(path))[0] for path in glob.glob(os.path.join(ROOT, "crates/*/must-fail/*.edit"))}

@@ -12,6 +12,8 @@ use Rattle.rules.specs.declared.Position.the-variants.{OfMachine, OfGrou
 use Rattle.rules.specs.declared.Model.{Model}
 use Rattle.rules.specs.declared.Model.the-variants.{NoModule, M8511, M8512, M8513}
 use Rattle.rules.specs.declared.Mode.the-variants.{NoMode, Mode0, Mode1, Mode2, Mode3, Mode4, Mode5}
+use Rattle.rules.specs.declared.Errors.{Errors}
+use Rattle.rules.specs.declared.Refusal.{Refusal}
 use Rattle.rules.specs.declared.Refusal.the-variants.{M0Length, M1Length, UnknownModule, BlockNumber, Ignored, SetupData, GroupData, LimitData, NudgeOutput, NudgeSetpoint, Transducer, TraceFile}
 use Rattle.rules.specs.declared.Action.{Action}
 use Rattle.rules.specs.declared.Limit.{Limit}
@@ -28,13 +30,13 @@ use Rattle.rules.specs.declared.GroupState.{GroupState}
 use Rattle.rules.specs.declared.FileCycle.{FileCycle}
 use Rattle.rules.specs.declared.FileCycle.the-variants.{SetupCycle, GroupCycle, LimitCycle}
 use Rattle.rules.specs.declared.Event.{Event}
-use Rattle.rules.specs.Words.{digit, word, wordOf, table, storedAt, anyWord, signedWord, differing, forced}
+use Rattle.rules.specs.Words.{digit, word, bits, wordOf, table, storedAt, anyWord, signedWord, differing, forced}
 use Rattle.rules.specs.Variants.{groupMode, realCount, virtualCount, andedOf}
 use Rattle.rules.specs.Counts.{ahead, holds}
 use Rattle.rules.specs.Motion.{realInput, turned, scaledPosition, machinePosition, windowSteps, tachShown, tachOverflow, rpmOf, detects, conditionsWith, conditions, faultConditions}
 use Rattle.rules.specs.Groups.{groupPosition, groupEvent, isOpen}
 use Rattle.rules.specs.Switches.{moved, pairHolds, normalHolds, pulseHolds, present, admitted, enableHolds, detectorHolds, outputWords, changedCount, answerOf}
-use Rattle.rules.specs.Cycle.{numberOf, withProgramming}
+use Rattle.rules.specs.Cycle.{numberOf, withProgramming, errorOf}
 use Rattle.rules.specs.SetupWords.{setupErrors, setupOf, noPrograms}
 use Rattle.rules.specs.GroupWords.{groupOf, ownersOf, failingGroup, groupErrors}
 use Rattle.rules.specs.LimitWords.{allZero, limitOfBlock, pulseBad, pulsesTouch, touchBad, blockBits, limitFrom, fifthTimed, limitBits, failingLimit, limitErrors, withLimits}
@@ -247,6 +249,13 @@ abbrev pub answerNumbers : Answer → List ℕ
 answerNumbers a =
     cond (a .refused) (numberOf Transducer) 0 ∷ a .position .0 ∷ a .rpm ∷ a .tach ∷ digit (a .overflow) ∷ digit (a .md1) ∷ digit (a .md2) ∷ a .real ∷ a .virtuals ∷ a .changed ∷ []
 
+-- SUErr, GPErr, LSErr, I/DNum and I/DSet, and the word with these bits
+abbrev pub errorsOf : Bool → Bool → Bool → Bool → Bool → Errors
+errorsOf a b c d e = record { setup = a; group = b; limit = c; number = d; setpoint = e }
+
+abbrev pub errorWord : Errors → ℕ
+errorWord e = bits (e .setup ∷ e .group ∷ e .limit ∷ e .number ∷ e .setpoint ∷ [])
+
 -- each place k of a file with the number k
 abbrev pub counting : ℕ → List ℕ
 counting n = table n 0 (λ k. k)
@@ -278,6 +287,8 @@ ofMotion =
     ∷ numbers (machinePosition (setupBy 0 0x8000 0) 1023 .0 ∷ machinePosition (setupBy 0 0x8000 0) 2 .0 ∷ machinePosition (setupBy 0 0x8010 0) 1022 .0 ∷ []) (11 ∷ 13 ∷ 13 ∷ [])
     -- "every 600th (TResp 1) or 2520th step"
     ∷ numbers (map windowSteps (true ∷ false ∷ [])) (600 ∷ 2520 ∷ [])
+    -- "rpm = |C| × 60000 / (1024 × W), rounded half up": the most, half a turn a step, and the least that is not 0
+    ∷ numbers (map (rpmOf true) (pos 307200 ∷ negsuc 307199 ∷ pos 1 ∷ pos 2 ∷ []) ++ map (rpmOf false) (pos 1290240 ∷ pos 4 ∷ negsuc 4 ∷ [])) (150000 ∷ 150000 ∷ 0 ∷ 1 ∷ 150000 ∷ 0 ∷ 1 ∷ [])
     -- "above 32767 it reads 32767 with TachOv set"
     ∷ numbers (map (tachShown (record { multiplier = 1; divider = 0; code = 0 })) (32766 ∷ 32767 ∷ 32768 ∷ [])) (32766 ∷ 32767 ∷ 32767 ∷ [])
     ∷ tests (map (tachOverflow (record { multiplier = 1; divider = 0; code = 0 })) (32766 ∷ 32767 ∷ 32768 ∷ [])) (false ∷ false ∷ true ∷ [])
@@ -285,6 +296,7 @@ ofMotion =
     ∷ tests (map (detects (record { low = 100; high = 200 })) (0 ∷ 99 ∷ 100 ∷ 200 ∷ 201 ∷ [])) (false ∷ false ∷ true ∷ true ∷ false ∷ [])
     ∷ tests (map (detects (record { low = 200; high = 100 })) (0 ∷ 100 ∷ 101 ∷ 199 ∷ 200 ∷ [])) (true ∷ true ∷ false ∷ false ∷ true ∷ [])
     ∷ tests (map (detects (record { low = 0; high = 0 })) (0 ∷ 1 ∷ [])) (false ∷ false ∷ [])
+    ∷ tests (map (detects (record { low = 0; high = 50 })) (0 ∷ 50 ∷ 51 ∷ []) ++ map (detects (record { low = 50; high = 0 })) (0 ∷ 1 ∷ 50 ∷ [])) (true ∷ true ∷ false ∷ true ∷ false ∷ true ∷ [])
     -- "0, 8 or 16 real inputs and outputs. All have 16 virtual ones"
     ∷ numbers (map realCount (M8511 ∷ M8512 ∷ M8513 ∷ []) ++ map virtualCount (M8511 ∷ M8512 ∷ M8513 ∷ [])) (0 ∷ 8 ∷ 16 ∷ 16 ∷ 16 ∷ 16 ∷ [])
     -- MD1 13/14 and MD2 15/16 at 14 and 15 rpm
@@ -313,12 +325,20 @@ ofSwitches =
     ∷ tests (map (λ (p : ℕ). pairHolds 1024 (pos 48) (advanced (switchAt 1 0 0 0 (100 ∷ 200 ∷ [])) 0 100) 0 (OfMachine (record { 0 = p }))) (99 ∷ 100 ∷ 179 ∷ 180 ∷ [])) (false ∷ true ∷ true ∷ false ∷ [])
     -- "0/0 is unused", moved or not
     ∷ tests (map (λ (p : ℕ). pairHolds 1024 (pos 48) (advanced (switchAt 1 0 0 0 (0 ∷ 0 ∷ [])) 100 0) 0 (OfMachine (record { 0 = p }))) (0 ∷ 1004 ∷ 1010 ∷ [])) (false ∷ false ∷ false ∷ [])
+    -- a pair with one setpoint at 0 is used
+    ∷ tests (map (λ (p : ℕ). pairHolds 1024 (pos 0) (switchAt 1 0 0 0 (1000 ∷ 0 ∷ [])) 0 (OfMachine (record { 0 = p }))) (999 ∷ 1000 ∷ 1023 ∷ 0 ∷ [])) (false ∷ true ∷ true ∷ false ∷ [])
+    ∷ tests (map (λ (p : ℕ). pairHolds 1024 (pos 0) (switchAt 1 0 0 0 (0 ∷ 24 ∷ [])) 0 (OfMachine (record { 0 = p }))) (1023 ∷ 0 ∷ 23 ∷ 24 ∷ [])) (false ∷ true ∷ true ∷ false ∷ [])
     -- "Normal: some used pair holds": eight pairs of one count each
     ∷ numbers (positionsWith 90 0 (λ p. normalHolds 1024 (pos 0) (switchAt 1 0 0 0 (1 ∷ 2 ∷ 11 ∷ 12 ∷ 21 ∷ 22 ∷ 31 ∷ 32 ∷ 41 ∷ 42 ∷ 51 ∷ 52 ∷ 61 ∷ 62 ∷ 71 ∷ 72 ∷ [])) (OfMachine (record { 0 = p }))))
     (1 ∷ 11 ∷ 21 ∷ 31 ∷ 41 ∷ 51 ∷ 61 ∷ 71 ∷ [])
     -- "R = (off − on) mod SF unmoved, .. from the ON setpoint moved by the ON advance": as e), moved by 20; the OFF advance moves nothing
     ∷ numbers (positionsWith 130 0 (λ p. pulseHolds 1024 (pos 48) (advanced (switchAt 2 3 4 0 (100 ∷ 120 ∷ [])) 100 50) 3 4 (OfMachine (record { 0 = p }))))
     (80 ∷ 81 ∷ 82 ∷ 83 ∷ 88 ∷ 89 ∷ 90 ∷ 91 ∷ 96 ∷ 97 ∷ 98 ∷ 99 ∷ [])
+    -- two pulses start at 0 and at R − K
+    ∷ numbers (positionsWith 130 0 (λ p. pulseHolds 1024 (pos 0) (switchAt 2 2 3 0 (100 ∷ 120 ∷ [])) 2 3 (OfMachine (record { 0 = p })))) (100 ∷ 101 ∷ 102 ∷ 117 ∷ 118 ∷ 119 ∷ [])
+    -- a train from 0, and one up to 0
+    ∷ numbers (positionsWith 130 0 (λ p. pulseHolds 1024 (pos 0) (switchAt 2 3 4 0 (0 ∷ 20 ∷ [])) 3 4 (OfMachine (record { 0 = p })))) (0 ∷ 1 ∷ 2 ∷ 3 ∷ 8 ∷ 9 ∷ 10 ∷ 11 ∷ 16 ∷ 17 ∷ 18 ∷ 19 ∷ [])
+    ∷ numbers (positionsWith 30 1000 (λ p. pulseHolds 1024 (pos 0) (switchAt 2 1 2 0 (1020 ∷ 0 ∷ [])) 1 2 (OfMachine (record { 0 = p })))) (1020 ∷ 1021 ∷ [])
     -- a pulse at 0/0 never fires; one pulse starts at 0
     ∷ tests (map (λ (p : ℕ). pulseHolds 1024 (pos 0) (switchAt 2 1 4 0 (0 ∷ 0 ∷ [])) 1 4 (OfMachine (record { 0 = p }))) (0 ∷ 1 ∷ [])) (false ∷ false ∷ [])
     ∷ tests (map (λ (p : ℕ). pulseHolds 1024 (pos 0) (switchAt 2 1 4 0 (5 ∷ 105 ∷ [])) 1 4 (OfMachine (record { 0 = p }))) (4 ∷ 5 ∷ 8 ∷ 9 ∷ [])) (false ∷ true ∷ true ∷ false ∷ [])
@@ -355,6 +375,9 @@ unfoldable pub ofCycles : List Case
 ofCycles =
     -- 01's numbers
     numbers (map numberOf (M0Length ∷ M1Length ∷ UnknownModule ∷ BlockNumber ∷ Ignored ∷ SetupData ∷ GroupData ∷ LimitData ∷ NudgeOutput ∷ NudgeSetpoint ∷ Transducer ∷ TraceFile ∷ [])) (1 ∷ 2 ∷ 3 ∷ 4 ∷ 5 ∷ 6 ∷ 7 ∷ 8 ∷ 9 ∷ 10 ∷ 11 ∷ 12 ∷ [])
+    -- "6 to 10 set their error", and leave the others: 6, 7, 8, 9, 10 and 5 where SUErr, LSErr and I/DSet stand, and where GPErr and I/DNum do
+    ∷ numbers (map (λ (r : Refusal). errorWord (errorOf r (errorsOf true false true false true))) (SetupData ∷ GroupData ∷ LimitData ∷ NudgeOutput ∷ NudgeSetpoint ∷ Ignored ∷ [])) (0x15 ∷ 0x17 ∷ 0x15 ∷ 0x1d ∷ 0x15 ∷ 0x15 ∷ [])
+    ∷ numbers (map (λ (r : Refusal). errorWord (errorOf r (errorsOf false true false true false))) (SetupData ∷ GroupData ∷ LimitData ∷ NudgeOutput ∷ NudgeSetpoint ∷ Ignored ∷ [])) (0x0b ∷ 0x0a ∷ 0x0e ∷ 0x0a ∷ 0x1a ∷ 0x0a ∷ [])
     ∷ []
 
 unfoldable pub ofSetup : List Case
@@ -422,6 +445,8 @@ ofLimitWords =
     -- a pulse switch with MD1, Q 3 and K 4; a timed one of 77 ms; words not used are ignored
     ∷ numbers (limitNumbers (limitOfBlock (blockOf (0x2001 ∷ 7 ∷ 0xfff8 ∷ 11 ∷ 12 ∷ 3 ∷ 4 ∷ 99 ∷ [])))) (2 ∷ 3 ∷ 4 ∷ 0 ∷ 0 ∷ 1 ∷ 0 ∷ 7 ∷ 1 ∷ 8 ∷ 11 ∷ 12 ∷ replicate 14 0)
     ∷ numbers (limitNumbers (limitOfBlock (blockOf (0x0002 ∷ 0 ∷ 0 ∷ 11 ∷ 12 ∷ 77 ∷ 4 ∷ 99 ∷ [])))) (3 ∷ 0 ∷ 0 ∷ 77 ∷ 0 ∷ 0 ∷ 0 ∷ 0 ∷ 0 ∷ 0 ∷ 11 ∷ 12 ∷ replicate 14 0)
+    -- an advance of 8000h is −32768, one of 7fffh 32767
+    ∷ numbers (map (λ (a : ℕ). digit (limitOfBlock (blockOf (0 ∷ a ∷ [])) .onadvance .negative)) (0x7fff ∷ 0x8000 ∷ []) ++ map (λ (a : ℕ). limitOfBlock (blockOf (0 ∷ a ∷ [])) .onadvance .tenths) (0x7fff ∷ 0x8000 ∷ [])) (0 ∷ 1 ∷ 32767 ∷ 32768 ∷ [])
     -- bit 1: detector 3, type 3, unnamed bits 2 to 12
     ∷ numbers (map (λ (n : ℕ). word630 (2 ^ n ∷ 0 ∷ 0 ∷ 1 ∷ 2 ∷ [])) (2 ∷ 3 ∷ 7 ∷ 11 ∷ 12 ∷ 13 ∷ 14 ∷ 15 ∷ []) ++ map (λ (c : ℕ). word630 (c ∷ 0 ∷ 0 ∷ 1 ∷ 2 ∷ [])) (0 ∷ 0x6000 ∷ 3 ∷ [])) (2 ∷ 2 ∷ 2 ∷ 2 ∷ 2 ∷ 0 ∷ 0 ∷ 0 ∷ 0 ∷ 2 ∷ 2 ∷ [])
     -- bit 2: "two advances −999 to 999"
@@ -435,7 +460,7 @@ ofLimitWords =
     ∷ numbers (map word630 ((1 ∷ 0 ∷ 0 ∷ 100 ∷ 120 ∷ 0 ∷ 4 ∷ []) ∷ (1 ∷ 0 ∷ 0 ∷ 100 ∷ 120 ∷ 3 ∷ 0 ∷ []) ∷ (1 ∷ 0 ∷ 0 ∷ 100 ∷ 119 ∷ 4 ∷ 4 ∷ []) ∷ (1 ∷ 0 ∷ 0 ∷ 100 ∷ 118 ∷ 4 ∷ 4 ∷ []) ∷ (1 ∷ 0 ∷ 0 ∷ 0 ∷ 0 ∷ 0 ∷ 4 ∷ []) ∷ (1 ∷ 0 ∷ 0 ∷ 100 ∷ 100 ∷ 0 ∷ 4 ∷ []) ∷ (1 ∷ 0 ∷ 0 ∷ 100 ∷ 100 ∷ 4 ∷ 400 ∷ []) ∷ []))
     (16 ∷ 16 ∷ 0 ∷ 16 ∷ 0 ∷ 24 ∷ 8 ∷ [])
     -- "two pulses touch": one starts where the one before ends, or the last ends where the first starts
-    ∷ tests (pulsesTouch 1000 20 4 5 ∷ pulsesTouch 1000 19 4 4 ∷ pulsesTouch 20 20 3 4 ∷ pulsesTouch 21 20 3 4 ∷ []) (true ∷ false ∷ true ∷ false ∷ [])
+    ∷ tests (pulsesTouch 1000 20 1 4 ∷ pulsesTouch 1000 20 4 5 ∷ pulsesTouch 1000 19 4 4 ∷ pulsesTouch 20 20 3 4 ∷ pulsesTouch 21 20 3 4 ∷ []) (false ∷ true ∷ false ∷ true ∷ false ∷ [])
     -- bit 5 "(tested where bits 3 and 4 are clear)"
     ∷ tests (map (λ (b : Bool × Bool). touchBad 1000 (b .0) (b .1) (blockOf (1 ∷ 0 ∷ 0 ∷ 100 ∷ 120 ∷ 4 ∷ 5 ∷ []))) ((false, false) ∷ (true, false) ∷ (false, true) ∷ [])) (true ∷ false ∷ false ∷ [])
     -- "of type 3 only bits 1 and 2 are tested"; bits 1, 2 and 3 together

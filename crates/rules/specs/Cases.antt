@@ -2,11 +2,11 @@
 -- theorem that equates the two does not see them. proofs/Cases.antt has the theorem that the definitions give what each line says.
 -- Assumes nothing.
 use Prim.Native.Nat.{ℕ, zero, suc, _+_, _*_, _^_, _%_}
-use mathlib.Core.Bool.{Bool, true, false, cond, not, _||_}
+use mathlib.Core.Bool.{Bool, true, false, cond, not, _&&_, _||_}
 use mathlib.Core.List.{List, [], _∷_, _++_, map}
 use mathlib.Core.Path.{_≡_}
 use lib.ListN.{replicate, set}
-use lib.Dec.{eqb}
+use lib.Dec.{ltb, eqb}
 use lib.IntN.{ℤ, pos, negsuc}
 use Rattle.rules.specs.declared.Position.the-variants.{OfMachine, OfGroup}
 use Rattle.rules.specs.declared.Model.{Model}
@@ -460,7 +460,7 @@ ofLimitWords =
     ∷ numbers (map word630 ((1 ∷ 0 ∷ 0 ∷ 100 ∷ 120 ∷ 0 ∷ 4 ∷ []) ∷ (1 ∷ 0 ∷ 0 ∷ 100 ∷ 120 ∷ 3 ∷ 0 ∷ []) ∷ (1 ∷ 0 ∷ 0 ∷ 100 ∷ 119 ∷ 4 ∷ 4 ∷ []) ∷ (1 ∷ 0 ∷ 0 ∷ 100 ∷ 118 ∷ 4 ∷ 4 ∷ []) ∷ (1 ∷ 0 ∷ 0 ∷ 0 ∷ 0 ∷ 0 ∷ 4 ∷ []) ∷ (1 ∷ 0 ∷ 0 ∷ 100 ∷ 100 ∷ 0 ∷ 4 ∷ []) ∷ (1 ∷ 0 ∷ 0 ∷ 100 ∷ 100 ∷ 4 ∷ 400 ∷ []) ∷ []))
     (16 ∷ 16 ∷ 0 ∷ 16 ∷ 0 ∷ 24 ∷ 8 ∷ [])
     -- "two pulses touch": one starts where the one before ends, or the last ends where the first starts
-    ∷ tests (pulsesTouch 1000 20 1 4 ∷ pulsesTouch 1000 20 4 5 ∷ pulsesTouch 1000 19 4 4 ∷ pulsesTouch 20 20 3 4 ∷ pulsesTouch 21 20 3 4 ∷ []) (false ∷ true ∷ false ∷ true ∷ false ∷ [])
+    ∷ tests (pulsesTouch 1000 20 1 4 ∷ pulsesTouch 1000 8 2 4 ∷ pulsesTouch 1000 9 2 4 ∷ pulsesTouch 1000 20 4 5 ∷ pulsesTouch 1000 19 4 4 ∷ pulsesTouch 20 20 3 4 ∷ pulsesTouch 21 20 3 4 ∷ []) (false ∷ true ∷ false ∷ true ∷ false ∷ true ∷ false ∷ [])
     -- bit 5 "(tested where bits 3 and 4 are clear)"
     ∷ tests (map (λ (b : Bool × Bool). touchBad 1000 (b .0) (b .1) (blockOf (1 ∷ 0 ∷ 0 ∷ 100 ∷ 120 ∷ 4 ∷ 5 ∷ []))) ((false, false) ∷ (true, false) ∷ (false, true) ∷ [])) (true ∷ false ∷ false ∷ [])
     -- "of type 3 only bits 1 and 2 are tested"; bits 1, 2 and 3 together
@@ -469,6 +469,8 @@ ofLimitWords =
     ∷ tests (allZero (replicate 19 0) ∷ allZero (set (replicate 19 0) 0 1) ∷ allZero (set (replicate 19 0) 18 1) ∷ []) (true ∷ false ∷ false ∷ [])
     -- "Four timed real, four virtual at most, those at 0/0 counted": each output is timed here, at 0/0
     ∷ tests (map (fifthTimed (table 650 0 (λ n. cond (eqb (n % 19) 2) 2 0))) (1 ∷ 4 ∷ 5 ∷ 16 ∷ 17 ∷ 20 ∷ 21 ∷ 32 ∷ [])) (false ∷ false ∷ true ∷ true ∷ false ∷ false ∷ true ∷ true ∷ [])
+    -- outputs 1 to 4 alone are timed: any later real one would be the fifth
+    ∷ tests (map (fifthTimed (table 650 0 (λ n. cond (eqb (n % 19) 2 && ltb n 78) 2 0))) (1 ∷ 4 ∷ 5 ∷ 16 ∷ 17 ∷ [])) (false ∷ false ∷ true ∷ true ∷ false ∷ [])
     -- bit 0, "not all zero and, in Group Mode, unassigned (no other bit is then tested)"; "Missing outputs' blocks are unread."
     ∷ numbers (map (λ (p : Programming). limitBits M8513 p (m1With 40 (4 ∷ [])) 3) (withMode 0x8000 ∷ withMode 0x8200 ∷ []) ++ (limitBits M8513 (withMode 0x8000) (m1With 40 []) 3 ∷ limitBits M8511 (withMode 0x8200) (m1With 40 (4 ∷ [])) 3 ∷ [])) (1 ∷ 2 ∷ 0 ∷ 0 ∷ [])
     ∷ numbers (map (λ (m : Model). limitFrom m (m1With 40 (0 ∷ 0 ∷ 0 ∷ 1 ∷ 2 ∷ [])) 3 .action .kind) (M8511 ∷ M8512 ∷ [])) (0 ∷ 1 ∷ [])

@@ -269,7 +269,7 @@ ofWords =
     -- "two's complement"
     ∷ integers (map signedWord (0 ∷ 32767 ∷ 32768 ∷ 65535 ∷ [])) (pos 0 ∷ pos 32767 ∷ negsuc 32767 ∷ negsuc 0 ∷ [])
     -- bits 1 and 15 differ
-    ∷ numbers (differing 0x8001 0x0003 ∷ differing 0 0xffff ∷ differing 5 5 ∷ []) (2 ∷ 16 ∷ 0 ∷ [])
+    ∷ numbers (differing 0x8001 0x0003 ∷ differing 0 0xffff ∷ differing 5 5 ∷ differing 0x10000 0 ∷ []) (2 ∷ 16 ∷ 0 ∷ 0 ∷ [])
     -- words 2 to 3: the last counts, the ones before and after do not
     ∷ tests (map (anyWord 2 3) ((0 ∷ 0 ∷ 0 ∷ 1 ∷ 0 ∷ []) ∷ (0 ∷ 0 ∷ 1 ∷ 0 ∷ 0 ∷ []) ∷ (1 ∷ 1 ∷ 0 ∷ 0 ∷ 1 ∷ []) ∷ [])) (true ∷ true ∷ false ∷ [])
     ∷ []
@@ -463,6 +463,7 @@ ofLimitWords =
     ∷ tests (pulsesTouch 1000 20 1 4 ∷ pulsesTouch 1000 8 2 4 ∷ pulsesTouch 1000 9 2 4 ∷ pulsesTouch 1000 20 4 5 ∷ pulsesTouch 1000 19 4 4 ∷ pulsesTouch 20 20 3 4 ∷ pulsesTouch 21 20 3 4 ∷ []) (false ∷ true ∷ false ∷ true ∷ false ∷ true ∷ false ∷ [])
     -- bit 5 "(tested where bits 3 and 4 are clear)"
     ∷ tests (map (λ (b : Bool × Bool). touchBad 1000 (b .0) (b .1) (blockOf (1 ∷ 0 ∷ 0 ∷ 100 ∷ 120 ∷ 4 ∷ 5 ∷ []))) ((false, false) ∷ (true, false) ∷ (false, true) ∷ [])) (true ∷ false ∷ false ∷ [])
+    ∷ tests (map (λ (b : List ℕ). touchBad 1000 false false (blockOf b)) ((1 ∷ 0 ∷ 0 ∷ 100 ∷ 120 ∷ 2 ∷ 9 ∷ []) ∷ (1 ∷ 0 ∷ 0 ∷ 0 ∷ 0 ∷ 4 ∷ 5 ∷ []) ∷ (0 ∷ 0 ∷ 0 ∷ 100 ∷ 120 ∷ 4 ∷ 5 ∷ []) ∷ [])) (false ∷ false ∷ false ∷ [])
     -- "of type 3 only bits 1 and 2 are tested"; bits 1, 2 and 3 together
     ∷ numbers (word630 (3 ∷ 1000 ∷ 0 ∷ 5 ∷ 5 ∷ []) ∷ word630 (4 ∷ 1000 ∷ 0 ∷ 5 ∷ 5 ∷ []) ∷ []) (6 ∷ 14 ∷ [])
     -- "An all-zero block": all 19 words

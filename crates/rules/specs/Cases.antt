@@ -30,7 +30,7 @@ use Rattle.rules.specs.declared.GroupState.{GroupState}
 use Rattle.rules.specs.declared.FileCycle.{FileCycle}
 use Rattle.rules.specs.declared.FileCycle.the-variants.{SetupCycle, GroupCycle, LimitCycle}
 use Rattle.rules.specs.declared.Event.{Event}
-use Rattle.rules.specs.Words.{digit, word, bits, wordOf, table, storedAt, anyWord, signedWord, differing, forced}
+use Rattle.rules.specs.Words.{digit, word, bits, wordOf, table, storedAt, otherBit, anyWord, signedWord, differing, forced}
 use Rattle.rules.specs.Variants.{groupMode, realCount, virtualCount, andedOf}
 use Rattle.rules.specs.Counts.{ahead, holds}
 use Rattle.rules.specs.Motion.{realInput, turned, scaledPosition, machinePosition, windowSteps, tachShown, tachOverflow, rpmOf, detects, conditionsWith, conditions, faultConditions}
@@ -270,6 +270,8 @@ ofWords =
     ∷ integers (map signedWord (0 ∷ 32767 ∷ 32768 ∷ 65535 ∷ [])) (pos 0 ∷ pos 32767 ∷ negsuc 32767 ∷ negsuc 0 ∷ [])
     -- bits 1 and 15 differ
     ∷ numbers (differing 0x8001 0x0003 ∷ differing 0 0xffff ∷ differing 5 5 ∷ differing 0x10000 0 ∷ []) (2 ∷ 16 ∷ 0 ∷ 0 ∷ [])
+    -- of bits 0 and 15 named, another of the sixteen
+    ∷ tests (map (otherBit (0 ∷ 15 ∷ [])) (0x8001 ∷ 0x4000 ∷ 0x0002 ∷ 0x10000 ∷ [])) (false ∷ true ∷ true ∷ false ∷ [])
     -- words 2 to 3: the last counts, the ones before and after do not
     ∷ tests (map (anyWord 2 3) ((0 ∷ 0 ∷ 0 ∷ 1 ∷ 0 ∷ []) ∷ (0 ∷ 0 ∷ 1 ∷ 0 ∷ 0 ∷ []) ∷ (1 ∷ 1 ∷ 0 ∷ 0 ∷ 1 ∷ []) ∷ [])) (true ∷ true ∷ false ∷ [])
     ∷ []

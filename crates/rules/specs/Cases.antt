@@ -474,6 +474,8 @@ ofLimitWords =
     ∷ tests (map (fifthTimed (table 650 0 (λ n. cond (eqb (n % 19) 2) 2 0))) (1 ∷ 4 ∷ 5 ∷ 16 ∷ 17 ∷ 20 ∷ 21 ∷ 32 ∷ [])) (false ∷ false ∷ true ∷ true ∷ false ∷ false ∷ true ∷ true ∷ [])
     -- outputs 1 to 4 alone are timed: any later real one would be the fifth
     ∷ tests (map (fifthTimed (table 650 0 (λ n. cond (eqb (n % 19) 2 && ltb n 78) 2 0))) (1 ∷ 4 ∷ 5 ∷ 16 ∷ 17 ∷ [])) (false ∷ false ∷ true ∷ true ∷ false ∷ [])
+    -- and of the virtual ones 17 to 20
+    ∷ tests (map (fifthTimed (table 650 0 (λ n. cond (eqb (n % 19) 2 && ltb 305 n && ltb n 382) 2 0))) (16 ∷ 17 ∷ 20 ∷ 21 ∷ 32 ∷ [])) (false ∷ false ∷ false ∷ true ∷ true ∷ [])
     -- bit 0, "not all zero and, in Group Mode, unassigned (no other bit is then tested)"; "Missing outputs' blocks are unread."
     ∷ numbers (map (λ (p : Programming). limitBits M8513 p (m1With 40 (4 ∷ [])) 3) (withMode 0x8000 ∷ withMode 0x8200 ∷ []) ++ (limitBits M8513 (withMode 0x8000) (m1With 40 []) 3 ∷ limitBits M8511 (withMode 0x8200) (m1With 40 (4 ∷ [])) 3 ∷ [])) (1 ∷ 2 ∷ 0 ∷ 0 ∷ [])
     ∷ numbers (map (λ (m : Model). limitFrom m (m1With 40 (0 ∷ 0 ∷ 0 ∷ 1 ∷ 2 ∷ [])) 3 .action .kind) (M8511 ∷ M8512 ∷ [])) (0 ∷ 1 ∷ [])
@@ -499,6 +501,8 @@ ofNudge =
     -- 10: "pair unused, or result 0/0, out of range or failing limit checks"
     ∷ tests (nudgeIs10 10 20 0x8100 ∷ nudgeIs10 998 20 0x8100 ∷ nudgeIs10 999 20 0x8100 ∷ nudgeIs10 20 999 0x8200 ∷ nudgeIs10 0 20 0x8500 ∷ nudgeIs10 20 0 0x8600 ∷ nudgeIs10 0 0 0x8100 ∷ nudgeIs10 1 0 0x8500 ∷ nudgeIs10 0 1 0x8600 ∷ nudgeIs10 10 11 0x8100 ∷ nudgeIs10 11 10 0x8200 ∷ nudgeIs10 10 11 0x8300 ∷ [])
     (false ∷ false ∷ true ∷ true ∷ true ∷ true ∷ true ∷ true ∷ true ∷ true ∷ true ∷ false ∷ [])
+    -- the type matters of a pulse alone
+    ∷ tests (map (λ (kind : ℕ). nudgeSetpointBad 1000 (switchAt kind 0 0 0 (10 ∷ 20 ∷ [])) 0 0x8100) (0 ∷ 1 ∷ 2 ∷ 3 ∷ [])) (false ∷ false ∷ true ∷ false ∷ [])
     -- a pulse train that just fits: shorter by one it does not
     ∷ tests (map (nudgeSetpointBad 1000 (switchAt 2 4 4 0 (100 ∷ 119 ∷ [])) 0) (0x8100 ∷ 0x8200 ∷ 0x8500 ∷ 0x8600 ∷ 0x8300 ∷ [])) (true ∷ false ∷ false ∷ true ∷ false ∷ [])
     ∷ []

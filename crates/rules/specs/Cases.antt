@@ -469,7 +469,7 @@ ofLimitWords =
     -- "of type 3 only bits 1 and 2 are tested"; bits 1, 2 and 3 together
     ∷ numbers (word630 (3 ∷ 1000 ∷ 0 ∷ 5 ∷ 5 ∷ []) ∷ word630 (4 ∷ 1000 ∷ 0 ∷ 5 ∷ 5 ∷ []) ∷ []) (6 ∷ 14 ∷ [])
     -- "An all-zero block": all 19 words
-    ∷ tests (allZero (replicate 19 0) ∷ allZero (set (replicate 19 0) 0 1) ∷ allZero (set (replicate 19 0) 18 1) ∷ []) (true ∷ false ∷ false ∷ [])
+    ∷ tests (allZero (replicate 19 0) ∷ map (λ (k : ℕ). allZero (set (replicate 19 0) k 1)) (0 ∷ 1 ∷ 17 ∷ 18 ∷ [])) (true ∷ false ∷ false ∷ false ∷ false ∷ [])
     -- "Four timed real, four virtual at most, those at 0/0 counted": each output is timed here, at 0/0
     ∷ tests (map (fifthTimed (table 650 0 (λ n. cond (eqb (n % 19) 2) 2 0))) (1 ∷ 4 ∷ 5 ∷ 16 ∷ 17 ∷ 20 ∷ 21 ∷ 32 ∷ [])) (false ∷ false ∷ true ∷ true ∷ false ∷ false ∷ true ∷ true ∷ [])
     -- outputs 1 to 4 alone are timed: any later real one would be the fifth

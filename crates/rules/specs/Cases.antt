@@ -289,6 +289,8 @@ ofMotion =
     ∷ numbers (machinePosition (setupBy 0 0x8000 0) 1023 .0 ∷ machinePosition (setupBy 0 0x8000 0) 2 .0 ∷ machinePosition (setupBy 0 0x8010 0) 1022 .0 ∷ []) (11 ∷ 13 ∷ 13 ∷ [])
     -- "every 600th (TResp 1) or 2520th step"
     ∷ numbers (map windowSteps (true ∷ false ∷ [])) (600 ∷ 2520 ∷ [])
+    -- "rpm × multiplier / (divisor × 10^code)": 15000 rpm, 2, 1, codes 0 to 3
+    ∷ numbers (map (λ (code : ℕ). tachShown (record { multiplier = 2; divider = 0; code = code }) 15000) (0 ∷ 1 ∷ 2 ∷ 3 ∷ [])) (30000 ∷ 3000 ∷ 300 ∷ 30 ∷ [])
     -- "rpm = |C| × 60000 / (1024 × W), rounded half up": the most, half a turn a step, and the least that is not 0
     ∷ numbers (map (rpmOf true) (pos 307200 ∷ negsuc 307199 ∷ pos 1 ∷ pos 2 ∷ []) ++ map (rpmOf false) (pos 1290240 ∷ pos 4 ∷ negsuc 4 ∷ [])) (150000 ∷ 150000 ∷ 0 ∷ 1 ∷ 150000 ∷ 0 ∷ 1 ∷ [])
     -- "above 32767 it reads 32767 with TachOv set"

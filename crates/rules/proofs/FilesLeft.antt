@@ -6,7 +6,7 @@ use mathlib.Core.Path.{_≡_, refl, sym, _∙_}
 use native.Mathlib.Omega.{arith}
 use borrow.Author.Tests.{eqb-true, ltb-true, ltb-false}
 use lib.ListN.{length, getD, set, length-set, List·getD-eq-default}
-use lib.Seq.{getD-set-same, getD-set-other}
+use lib.Seq.{getD-set-same}
 use lib.Dec.{eqb, ltb}
 use Rattle.rules.specs.declared.FileCycle.{FileCycle}
 use Rattle.rules.specs.declared.FileCycle.the-variants.{SetupCycle, GroupCycle, LimitCycle}
@@ -16,7 +16,7 @@ use Rattle.rules.specs.Words.{storedAt}
 use Rattle.rules.specs.Cycle.{acts}
 use Rattle.rules.specs.FileCycle.{fileLength, statusAt, fileErrors, failing, command, fileCycle, statusWords, fileAfter}
 use Rattle.rules.specs.Card.{fileLeft}
-use Rattle.rules.proofs.Laws.{length-stored}
+use Rattle.rules.proofs.Laws.{length-stored, stored-outside}
 use Rattle.rules.proofs.Past.{by}
 
 -- 01's lengths, and the word with transmit and ClrErr, of each kind
@@ -33,12 +33,6 @@ commandOf LimitCycle file = getD file 0 0
 -- ---- Only the status words change
 
 -- words stored from a place on leave the others, and are at their places
-stored-outside : (at : ℕ) (ws file : List ℕ) (k : ℕ) → ((at ≤ k) × (k < at + length ws) → ⊥) → getD (storedAt at ws file) k 0 ≡ getD file k 0
-unfolding storedAt
-stored-outside at [] file k h = refl
-stored-outside at (w ∷ ws) file k h =
-    stored-outside (at + 1) ws (set file at w) k (λ p. h (omega arith, omega arith)) ∙ getD-set-other file at k w 0 (λ e. h (omega arith, omega arith))
-
 stored-to-end : (at : ℕ) (ws file : List ℕ) (k : ℕ) → ((at ≤ k) × (k < length file) → ⊥) → getD (storedAt at ws file) k 0 ≡ getD file k 0
 stored-to-end at ws file k h =
     by (ltb k (length file))

@@ -1,4 +1,4 @@
--- Laws that more than one proof cites: the difference modulo SF as sums and remainders of naturals, the position a preset gives, the length of a file.
+-- Laws that more than one proof cites: the difference modulo SF as sums and remainders of naturals, and words stored into a file.
 -- Assumes nothing.
 use Prim.Native.Nat.{ℕ, zero, suc, _+_, _-_, _*_, _/_, _%_, _≤_, _<_}
 use mathlib.Core.Bool.{Bool, true, false}
@@ -7,7 +7,8 @@ use mathlib.Core.List.{List, [], _∷_}
 use native.Mathlib.Nat.{mod-lt, mod-eq-of-lt, add-mod-right, add-mul-mod-self-right, div-add-mod'}
 use native.Mathlib.Omega.{arith}
 use borrow.Author.Tests.{ltb-true, ltb-false, le-ltb}
-use lib.ListN.{length, set, length-set}
+use lib.ListN.{length, getD, set, length-set}
+use lib.Seq.{getD-set-other}
 use lib.Dec.{ltb}
 use lib.IntN.{ℤ, pos, negsuc, subℕ, _-ℤ_}
 use Rattle.rules.specs.Words.{modulo, storedAt}
@@ -81,3 +82,10 @@ pub length-stored : (at : ℕ) (ws file : List ℕ) → length (storedAt at ws f
 unfolding storedAt
 length-stored at [] file = refl
 length-stored at (w ∷ ws) file = length-stored (at + 1) ws (set file at w) ∙ length-set file at w
+
+-- and change only their own places
+pub stored-outside : (at : ℕ) (ws file : List ℕ) (k : ℕ) → ((at ≤ k) × (k < at + length ws) → ⊥) → getD (storedAt at ws file) k 0 ≡ getD file k 0
+unfolding storedAt
+stored-outside at [] file k h = refl
+stored-outside at (w ∷ ws) file k h =
+    stored-outside (at + 1) ws (set file at w) k (λ p. h (omega arith, omega arith)) ∙ getD-set-other file at k w 0 (λ e. h (omega arith, omega arith))

@@ -9,7 +9,7 @@ use mathlib.Core.List.{List, [], _∷_, map}
 use native.Mathlib.Omega.{arith}
 use lib.ListN.{length, getD, set, length-append, length-set, length-map, List·getD-append, List·getD-map}
 use lib.Dec.{ltb, eqb}
-use lib.Seq.{getD-set-same, getD-set-other}
+use lib.Seq.{getD-set-same}
 use borrow.Author.Tests.{ltb-false, eq-eqb, ne-eqb}
 use Rattle.rules.specs.declared.GroupPosition.{GroupPosition}
 use Rattle.rules.specs.declared.Model.{Model}
@@ -38,6 +38,7 @@ use Rattle.rules.specs.Card.{conditionsNow, openNow, groupStateAt, fileL
 use Rattle.rules.specs.Run.{moduleAfter, run, outputBit}
 use Rattle.rules.specs.Quant.{noLater}
 use Rattle.rules.specs.History.{configurationOf, programmingOf, setupInForce, isModuleStart, conditionsIn, PastStep, beginsAt, takesAt, edgeAt, stopAt, positionAt, dwellAt, pastOf, qualifiesAt, countsAt, openAt, groupStepIn, sinceGroupStart, groupPast, positionIn, openIn, positionsIn, opennessIn, lastRaw, leftPositions, acted, ignoredAfter, messageIgnored}
+use Rattle.rules.proofs.Laws.{stored-outside}
 use Rattle.rules.proofs.Brought.{preset-shows}
 use Rattle.rules.proofs.Packing.{getD-table-0, length-table}
 use Rattle.rules.proofs.Past.{by, Moment, NoLater, later-step}
@@ -182,18 +183,13 @@ closed-dark model l s n g b c mode owner shut unforced =
 
 -- ---- Words 112 to 117
 
--- words stored into a file: those before their place stay, and word k of them is at their place + k
-stored-before : (at : ℕ) (ws file : List ℕ) (j : ℕ) → j < at → word (storedAt at ws file) j ≡ word file j
-unfolding storedAt
-stored-before at [] file j h = refl
-stored-before at (w ∷ ws) file j h = stored-before (at + 1) ws (set file at w) j (omega arith) ∙ getD-set-other file at j w 0 (λ e. omega arith)
-
+-- word k of those stored into a file is at their place + k
 stored-word : (at : ℕ) (ws file : List ℕ) (k : ℕ) → k < length ws → at + length ws ≤ length file → word (storedAt at ws file) (at + k) ≡ getD ws k 0
 unfolding storedAt
 stored-word at [] file k h f = absurd (omega arith)
 stored-word at (w ∷ ws) file zero h f =
     let e : at + 0 ≡ at = omega arith in
-    rw e (stored-before (at + 1) ws (set file at w) at (omega arith) ∙ getD-set-same file at w 0 (omega arith))
+    rw e (stored-outside (at + 1) ws (set file at w) at (λ p. omega arith) ∙ getD-set-same file at w 0 (omega arith))
 stored-word at (w ∷ ws) file (suc k) h f =
     let e : at + suc k ≡ at + 1 + k = omega arith in
     rw e (stored-word (at + 1) ws (set file at w) k (omega arith) (omega (arith, length-set file at w)))

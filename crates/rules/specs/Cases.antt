@@ -461,8 +461,8 @@ ofLimitWords =
     ∷ numbers (map (λ (t : ℕ). word630 (2 ∷ 0 ∷ 0 ∷ 1 ∷ 2 ∷ t ∷ 5000 ∷ [])) (0 ∷ 1 ∷ 9999 ∷ 10000 ∷ []) ++ map (λ (t : ℕ). word630 (2 ∷ 0 ∷ 0 ∷ 0 ∷ 0 ∷ t ∷ [])) (0 ∷ 10000 ∷ [])) (16 ∷ 0 ∷ 0 ∷ 16 ∷ 0 ∷ 0 ∷ [])
     ∷ numbers (blockBits 1000 true (blockOf (2 ∷ 0 ∷ 0 ∷ 1 ∷ 2 ∷ 1 ∷ [])) ∷ blockBits 1000 true (blockOf (2 ∷ [])) ∷ blockBits 1000 true (blockOf (1 ∷ 0 ∷ 0 ∷ 100 ∷ 120 ∷ 3 ∷ 4 ∷ [])) ∷ []) (16 ∷ 16 ∷ 0 ∷ [])
     -- bit 4: "Q or K 0, or, with bit 3 clear, R < Q × K + Q − 1"; at 0/0 unread
-    ∷ numbers (map word630 ((1 ∷ 0 ∷ 0 ∷ 100 ∷ 120 ∷ 0 ∷ 4 ∷ []) ∷ (1 ∷ 0 ∷ 0 ∷ 100 ∷ 120 ∷ 3 ∷ 0 ∷ []) ∷ (1 ∷ 0 ∷ 0 ∷ 100 ∷ 119 ∷ 4 ∷ 4 ∷ []) ∷ (1 ∷ 0 ∷ 0 ∷ 100 ∷ 118 ∷ 4 ∷ 4 ∷ []) ∷ (1 ∷ 0 ∷ 0 ∷ 0 ∷ 0 ∷ 0 ∷ 4 ∷ []) ∷ (1 ∷ 0 ∷ 0 ∷ 100 ∷ 100 ∷ 0 ∷ 4 ∷ []) ∷ (1 ∷ 0 ∷ 0 ∷ 100 ∷ 100 ∷ 4 ∷ 400 ∷ []) ∷ []))
-    (16 ∷ 16 ∷ 0 ∷ 16 ∷ 0 ∷ 24 ∷ 8 ∷ [])
+    ∷ numbers (map word630 ((1 ∷ 0 ∷ 0 ∷ 100 ∷ 120 ∷ 0 ∷ 4 ∷ []) ∷ (1 ∷ 0 ∷ 0 ∷ 100 ∷ 120 ∷ 3 ∷ 0 ∷ []) ∷ (1 ∷ 0 ∷ 0 ∷ 100 ∷ 119 ∷ 4 ∷ 4 ∷ []) ∷ (1 ∷ 0 ∷ 0 ∷ 100 ∷ 118 ∷ 4 ∷ 4 ∷ []) ∷ [])) (16 ∷ 16 ∷ 0 ∷ 16 ∷ [])
+    ∷ numbers (map word630 ((1 ∷ 0 ∷ 0 ∷ 0 ∷ 0 ∷ 0 ∷ 4 ∷ []) ∷ (1 ∷ 0 ∷ 0 ∷ 100 ∷ 100 ∷ 0 ∷ 4 ∷ []) ∷ (1 ∷ 0 ∷ 0 ∷ 100 ∷ 100 ∷ 4 ∷ 400 ∷ []) ∷ [])) (0 ∷ 24 ∷ 8 ∷ [])
     -- "two pulses touch": one starts where the one before ends, or the last ends where the first starts
     ∷ tests (pulsesTouch 1000 20 1 4 ∷ pulsesTouch 1000 8 2 4 ∷ pulsesTouch 1000 9 2 4 ∷ pulsesTouch 1000 20 4 5 ∷ pulsesTouch 1000 19 4 4 ∷ pulsesTouch 20 20 3 4 ∷ pulsesTouch 21 20 3 4 ∷ []) (false ∷ true ∷ false ∷ true ∷ false ∷ true ∷ false ∷ [])
     -- bit 5 "(tested where bits 3 and 4 are clear)"

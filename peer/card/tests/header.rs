@@ -1,8 +1,7 @@
 //! include/chimneyrye.h: C lays its structs out as the archive does, and a loop
 //! in C runs.
 
-use std::path::{Path, PathBuf};
-use std::process::Command;
+mod host;
 
 use card_loop::layout::{
     Acknowledges, Advance, Answer, Configuration, Detector, Errors, Group, GroupState, Kept, Last,
@@ -10,24 +9,12 @@ use card_loop::layout::{
     Switch, TimedState, Window,
 };
 
-/// A C program of this folder, compiled with the header and the archive, and
-/// what it prints.
+/// What a C program of this folder prints.
 fn printed(name: &str) -> String {
-    let package = Path::new(env!("CARGO_MANIFEST_DIR"));
-    let program: PathBuf = Path::new(env!("CARGO_TARGET_TMPDIR")).join(name);
-    let compiled = Command::new("cc")
-        .args(["-std=c11", "-Wall", "-Wextra", "-Werror", "-pedantic", "-I"])
-        .arg(package.join("../../crates/card/include"))
-        .arg(package.join(format!("tests/c/{name}.c")))
-        .arg(package.join("../../target/staticlib/libcard.a"))
-        .arg("-o")
-        .arg(&program)
-        .status()
-        .expect("cc runs");
-    assert!(compiled.success());
-    let output = Command::new(&program).output().expect("program runs");
-    assert!(output.status.success());
-    String::from_utf8(output.stdout).expect("text")
+    host::printed(
+        &format!("peer/card/tests/c/{name}.c"),
+        &["-std=c11", "-pedantic"],
+    )
 }
 
 #[test]

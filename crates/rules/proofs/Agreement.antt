@@ -23,9 +23,9 @@ use Rattle.rules.specs.GroupWords.{withGroups}
 use Rattle.rules.specs.LimitWords.{withLimits}
 use Rattle.rules.specs.FileCycle.{brought}
 use Rattle.rules.specs.Nudge.{nudgeClearBit, nudgeOutput, nudgedLimit, nudgedProgramming}
-use Rattle.rules.specs.Calls.{Call, Step, FileCall, NudgeCall, sound, configurationAfter}
-use Rattle.rules.specs.Card.{speedAfter, groupAfter, speedNow, conditionsNow, groupNow, leftPosition, openNow, groupsNow, positionsNow, opennessNow, timedAfter, timedNow, timedOf, groupStateAt, freshGroup, timedAt, freshTimed, moduleStart, groupStart, limitStart, startOf, sinceAfter, freshModule, fileCall, nudgeCall, sinceNow, stepState, stepCall}
-use Rattle.rules.specs.Run.{moduleAfter, run}
+use Rattle.rules.specs.Calls.{Read, Write, Call, Step, FileCall, NudgeCall, ByteCall, sound, configurationAfter}
+use Rattle.rules.specs.Card.{speedAfter, groupAfter, speedNow, conditionsNow, groupNow, leftPosition, openNow, groupsNow, positionsNow, opennessNow, timedAfter, timedNow, timedOf, groupStateAt, freshGroup, timedAt, freshTimed, moduleStart, groupStart, limitStart, startOf, sinceAfter, freshModule, fileCall, nudgeCall, sinceNow, stepState, stepCall, writeCall}
+use Rattle.rules.specs.Run.{accessed, moduleAfter, run}
 use Rattle.rules.specs.History.{configurationOf, programmingOf, isModuleStart, isGroupStart, isLimitStart, since, turnedIn, sinceModuleStart, upToStep, rpmIn, conditionsIn, GroupStep, pastOf, groupStepIn, sinceGroupStart, groupPast, positionIn, openIn, positionsIn, opennessIn, pairIn, sinceLimitStart, lastsIn}
 use Rattle.rules.proofs.Laws.{mod-below}
 use Rattle.rules.proofs.Packing.{getD-table-0, table-same}
@@ -37,10 +37,12 @@ use Rattle.rules.proofs.Cycles.{either-way, file-leaves, nudge-leaves, 
 -- ---- The configuration
 
 call-configuration : (x : Module) (call : Call) → moduleAfter x call .configuration ≡ configurationAfter (x .configuration) call
-unfolding moduleAfter configurationAfter stepCall fileCall nudgeCall
+unfolding accessed moduleAfter configurationAfter stepCall fileCall nudgeCall writeCall
 call-configuration x (Step s) = refl
 call-configuration x (FileCall kind file) = refl
 call-configuration x (NudgeCall w) = refl
+call-configuration x (ByteCall (Read n)) = refl
+call-configuration x (ByteCall (Write n v)) = refl
 
 pub configuration-is : (model : Model) (l : List Call) → run model l .configuration ≡ configurationOf model l
 unfolding run configurationOf freshModule
@@ -196,7 +198,7 @@ module _ (g : Configuration) (x : SinceStart) (qs : List ℕ) (steps : ℕ → L
 
 pub agrees : (model : Model) (l : List Call)
     → Agrees (programmingOf model l) (run model l .state .since) (sinceModuleStart model l) (sinceGroupStart model l) (sinceLimitStart model l)
-unfolding run configurationOf moduleAfter configurationAfter sinceModuleStart sinceGroupStart sinceLimitStart since isModuleStart isGroupStart isLimitStart freshModule stepCall stepState sinceNow fileCall startOf nudgeCall
+unfolding run configurationOf accessed moduleAfter configurationAfter sinceModuleStart sinceGroupStart sinceLimitStart since isModuleStart isGroupStart isLimitStart freshModule stepCall stepState sinceNow fileCall startOf nudgeCall writeCall
 agrees model [] = started _
 agrees model (Step s ∷ l) =
     rw (configuration-is model l, step-programming (configurationOf model l) s)
@@ -224,3 +226,5 @@ agrees model (NudgeCall w ∷ l) =
     rw (configuration-is model l)
     (either-way (nudge-leaves (configurationOf model l) w) (λ p q. Agrees p (cond q x x) (sinceModuleStart model l) (sinceGroupStart model l) (sinceLimitStart model l))
     (λ _. nudged-agrees (programmingOf model l) w (bit w nudgeClearBit) x _ _ _ (agrees model l)) (agrees model l))
+agrees model (ByteCall (Read n) ∷ l) = agrees model l
+agrees model (ByteCall (Write n v) ∷ l) = agrees model l

@@ -13,16 +13,18 @@ use Rattle.rules.specs.LimitWords
 use Rattle.rules.specs.FileCycle
 use Rattle.rules.specs.Nudge
 use Rattle.rules.specs.Reader
+use Rattle.rules.specs.Bus
 use Rattle.rules.specs.Calls
 use Rattle.rules.specs.Card
 use Rattle.rules.specs.Quant
 use Rattle.rules.specs.History
+use Rattle.rules.specs.BusHistory
 use Rattle.rules.specs.Run
 use Rattle.rules.specs.Trace
 use Rattle.rules.specs.Reports
 
 words : Unit {0}
-unfolding Words.bit Words.packed Words.someOf Words.eachOf Words.countOf Words.lowestOf Words.table Words.storedAt Words.otherBit Words.anyWord Words.modulo Words.roundHalfUp Words.signedWord Words.differing xor
+unfolding Words.bit Words.packed Words.bytesOf Words.someOf Words.eachOf Words.countOf Words.lowestOf Words.table Words.storedAt Words.otherBit Words.anyWord Words.modulo Words.roundHalfUp Words.signedWord Words.differing xor
 words = tt
 
 variants : Unit {0}
@@ -89,9 +91,17 @@ past3 : Unit {0}
 unfolding History.sinceGroupStart History.groupPast History.positionIn History.openIn History.positionsIn History.opennessIn History.pairIn History.sinceLimitStart History.heldAt History.lasts History.lastsIn History.ruleIn History.outputsIn History.lastPosition History.previousVirtuals History.expectedAnswer History.expectedAnswers
 past3 = tt
 
+bus : Unit {0}
+unfolding Bus.shownBy Bus.statusBits Bus.inputTable Bus.tableByte Bus.requested Bus.lineOf Bus.byteAt Bus.byteRead Bus.stored Bus.busWrite
+bus = tt
+
 reader : Unit {0}
 unfolding Reader.readerRefusal Reader.readerPart
 reader = tt
+
+past4 : Unit {0}
+unfolding BusHistory.lastShown BusHistory.shownConfiguration BusHistory.byteTold BusHistory.countedAt BusHistory.writesAt BusHistory.writesOneAt BusHistory.requestTold BusHistory.maskTold BusHistory.lineTold BusHistory.busTold BusHistory.keptTold BusHistory.expectedReply BusHistory.expectedReplies
+past4 = tt
 
 card1 : Unit {0}
 unfolding Card.biasedMovement Card.updates Card.windowSum Card.windowAfter Card.windowMovement Card.cAfter Card.rpmAfter Card.speedAfter Card.positionBy Card.beginsNow Card.takesNow Card.shiftNow Card.positionNow Card.heldNow Card.qualifiedNow Card.openedNow Card.groupAfter Card.speedNow Card.conditionsNow Card.groupNow
@@ -102,11 +112,11 @@ unfolding Card.leftPosition Card.openNow Card.groupsNow Card.positionsNow Card.o
 card2 = tt
 
 card3 : Unit {0}
-unfolding Card.sinceNow Card.keptNow Card.stepState Card.stepAnswer Card.stepCall
+unfolding Card.sinceNow Card.stepAnswer Card.keptAfter Card.stepState Card.stepCall Card.readCall Card.writeCall Card.lineLevel
 card3 = tt
 
 running : Unit {0}
-unfolding Run.moduleAfter Run.run Run.answers
+unfolding Run.accessed Run.moduleAfter Run.run Run.answers Run.reply Run.replies
 running = tt
 
 tracing : Unit {0}
@@ -114,12 +124,12 @@ unfolding Trace.decimalDigits Trace.decimal Trace.hexDigit Trace.hexadecimal Tra
 tracing = tt
 
 reporting : Unit {0}
-unfolding Reports.sentCalls Reports.sampleCalls Reports.samplesCalled Reports.cycleCalled Reports.callsOf Reports.samplesWhole Reports.cycleWhole Reports.traceWhole Reports.refusals Reports.sampleLines Reports.through Reports.bytesOf Reports.sampleWords Reports.traceOf
+unfolding Reports.sentCalls Reports.sampleCalls Reports.samplesCalled Reports.cycleCalled Reports.callsOf Reports.samplesWhole Reports.cycleWhole Reports.traceWhole Reports.refusals Reports.sampleLines Reports.through Reports.sampleWords Reports.traceOf
 reporting = tt
 
 -- the rules that know no past; with the state machine; with the history; with a trace
 unfoldable pub rules : Unit {0}
-unfolding words variants motion groups switches1 switches2 cycles1 cycles2 setupWords groupWords limitWords1 limitWords2 calls reader
+unfolding words variants motion groups switches1 switches2 cycles1 cycles2 setupWords groupWords limitWords1 limitWords2 calls reader bus
 rules = tt
 
 unfoldable pub machine : Unit {0}
@@ -127,7 +137,7 @@ unfolding rules card1 card2 card3 running
 machine = tt
 
 unfoldable pub history : Unit {0}
-unfolding rules quantifiers past1 past2 past3
+unfolding rules quantifiers past1 past2 past3 past4
 history = tt
 
 unfoldable pub trace : Unit {0}

@@ -20,11 +20,12 @@ use Rattle.rules.specs.declared.Answer.{Answer}
 use Rattle.rules.specs.declared.OutputWords.{OutputWords}
 use Rattle.rules.specs.Words.{bit, roundHalfUp}
 use Rattle.rules.specs.Variants.{modelIn, codeOf, codeNumber}
-use Rattle.rules.specs.Motion.{divisor, tachValue, tachShown, tachOverflow, faultConditions}
+use Rattle.rules.specs.Motion.{divisor, tachValue, tachShown, tachOverflow, faultConditions, realInputs}
 use Rattle.rules.specs.Switches.{present, forcedOff, forcedOn, outputOn, changedCount, outputWords, answerOf}
 use Rattle.rules.specs.Cycle.{numberOf}
+use Rattle.rules.specs.Bus.{shownBy, requested}
 use Rattle.rules.specs.Calls.{sound, stepConfiguration}
-use Rattle.rules.specs.Card.{moduleStart, outputsNow, sinceNow, keptNow, stepState, stepAnswer, stepCall}
+use Rattle.rules.specs.Card.{moduleStart, outputsNow, sinceNow, stepAnswer, keptAfter, stepState, stepCall}
 use Rattle.rules.proofs.Packing.{packed-bit}
 use Rattle.rules.proofs.Past.{either, by}
 use Rattle.rules.proofs.Causes.{firstOf, Exactly, exactly}
@@ -94,7 +95,7 @@ forcedOnly m s = outputWords (modelIn (m .configuration)) s (λ n. false)
 pub fault-shows : (m : Module) (s : Sample) → stepNumber (stepCall m s .answer) ≡ 11
     → stepCall m s .answer ≡ record {
       refused = true;
-      position = m .state .kept .position;
+      position = m .state .kept .shown .position;
       rpm = 0;
       tach = 0;
       overflow = false;
@@ -102,7 +103,7 @@ pub fault-shows : (m : Module) (s : Sample) → stepNumber (stepCall m s .answer
       md2 = false;
       real = forcedOnly m s .real;
       virtuals = forcedOnly m s .virtuals;
-      changed = changedCount (m .configuration .programming .setup) (m .state .kept .virtuals) (forcedOnly m s .virtuals);
+      changed = changedCount (m .configuration .programming .setup) (m .state .kept .shown .virtuals) (forcedOnly m s .virtuals);
     }
 unfolding stepCall stepAnswer answerOf outputsNow faultConditions tachShown tachOverflow
 fault-shows m s e = rw (unsound m s e, no-tach (m .configuration .programming .setup .scalars))
@@ -129,7 +130,8 @@ fault-dark m s n e h =
       λ o. packed-bit 16 16 n (outputOn model s (λ k. false)) h ∙ unforced model s (16 + n) (rw (le-ltb (16 + n) 16 (omega arith), y) o),
     )
 
--- "Latches": programming, errors, acknowledges, MsgIgn and the raw of before stay; it is a module start
+-- "Latches": programming, errors, acknowledges, MsgIgn and the raw of before stay; it is a module start. The input table shows what it answers and its own
+-- inputs after the forces, and a count that isn't 0 sets the request.
 pub fault-leaves : (m : Module) (s : Sample) → stepNumber (stepCall m s .answer) ≡ 11
     → stepCall m s .card ≡ record {
       configuration = record {
@@ -141,10 +143,25 @@ pub fault-leaves : (m : Module) (s : Sample) → stepNumber (stepCall m s .answe
         fault = true;
         raw = m .configuration .raw;
       };
-      state = record { since = moduleStart; kept = record { position = m .state .kept .position; virtuals = forcedOnly m s .virtuals } };
+      state = record {
+        since = moduleStart;
+        kept = record {
+          shown = record {
+            position = m .state .kept .shown .position;
+            tach = 0;
+            real = forcedOnly m s .real;
+            virtuals = forcedOnly m s .virtuals;
+            inputs = realInputs (m .configuration) s;
+            overflow = false;
+            md1 = false;
+            md2 = false;
+          };
+          bus = requested (m .state .kept .bus) (changedCount (m .configuration .programming .setup) (m .state .kept .shown .virtuals) (forcedOnly m s .virtuals));
+        };
+      };
     }
-unfolding stepCall stepConfiguration stepState sinceNow keptNow outputsNow
-fault-leaves m s e = rw (unsound m s e)
+unfolding stepCall stepConfiguration stepState sinceNow stepAnswer answerOf keptAfter shownBy outputsNow faultConditions tachShown tachOverflow
+fault-leaves m s e = rw (unsound m s e, no-tach (m .configuration .programming .setup .scalars))
 
 -- a step that is not answered 11 is answered 0: no fault is latched, and the last raw is its own
 pub sound-leaves : (m : Module) (s : Sample) → stepNumber (stepCall m s .answer) ≡ 0

@@ -18,7 +18,7 @@ use Rattle.rules.specs.Switches.{limitOf}
 use Rattle.rules.specs.SetupWords.{noPrograms, withSetup}
 use Rattle.rules.specs.FileCycle.{fileErrors, brought}
 use Rattle.rules.specs.Nudge.{nudgeClearBit, nudgeOutput, nudgePair, nudgeOutputBad, nudgeSetpointBad, nudgedProgramming}
-use Rattle.rules.specs.Calls.{Call, Step, FileCall, NudgeCall, defaultSetup, freshConfiguration, configurationAfter}
+use Rattle.rules.specs.Calls.{Call, Step, FileCall, NudgeCall, ByteCall, defaultSetup, freshConfiguration, configurationAfter}
 use Rattle.rules.specs.History.{configurationOf, programmingOf}
 use Rattle.rules.proofs.Cycles.{either-way, file-leaves, nudge-leaves, nudged, nudgePasses, step-model, step-programming}
 
@@ -29,6 +29,7 @@ model-stays model [] = refl
 model-stays model (Step s ∷ l) = step-model (configurationOf model l) s ∙ model-stays model l
 model-stays model (FileCall kind file ∷ l) = file-leaves kind (configurationOf model l) file .model ∙ model-stays model l
 model-stays model (NudgeCall w ∷ l) = nudge-leaves (configurationOf model l) w .model ∙ model-stays model l
+model-stays model (ByteCall a ∷ l) = model-stays model l
 
 pub model-read : (model : Model) → modelOf (modelNumber model) ≡ model
 unfolding modelOf modelNumber
@@ -60,6 +61,7 @@ module _ (X : Programming → Type 0) (k : Keeps X) where
       either-way (file-leaves kind (configurationOf model l) file) (λ p _. X p) (λ c. k .file kind (configurationOf model l) file c (always model l)) (always model l)
   always model (NudgeCall w ∷ l) =
       either-way (nudge-leaves (configurationOf model l) w) (λ p _. X p) (λ c. nudges (programmingOf model l) w (bit w nudgeClearBit) refl c (always model l)) (always model l)
+  always model (ByteCall a ∷ l) = always model l
 
 -- a new setup drops the programs, or SF is the same and they stay
 pub with-setup : (X : Programming → Type 0) (p : Programming) (u : Setup) → X (noPrograms u)

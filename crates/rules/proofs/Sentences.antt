@@ -33,7 +33,7 @@ use Rattle.rules.specs.Cycle.{numberOf, outcomeNumber, isAccepted, acts}
 use Rattle.rules.specs.SetupWords.{setupErrors, setupOf}
 use Rattle.rules.specs.FileCycle.{fileLength, statusAt, fileErrors, brought, command, fileCycle, statusWords, fileAfter}
 use Rattle.rules.specs.Nudge.{nudgeCycle}
-use Rattle.rules.specs.Calls.{Call, Step, FileCall, NudgeCall, sound, configurationAfter}
+use Rattle.rules.specs.Calls.{Call, Step, FileCall, NudgeCall, ByteCall, sound, configurationAfter}
 use Rattle.rules.specs.Card.{conditionsNow, openNow, groupStateAt, fileLeft, stepCall}
 use Rattle.rules.specs.Run.{moduleAfter, run, outputBit}
 use Rattle.rules.specs.Quant.{noLater}
@@ -200,6 +200,7 @@ left-six model [] = refl
 left-six model (Step s ∷ l) = by (sound (configurationOf model l) s) (λ q. rw q (length-table 6 0 (positionIn model l s))) (λ q. rw q)
 left-six model (FileCall kind file ∷ l) = by (isModuleStart (configurationOf model l) (FileCall kind file)) (λ q. rw q) (λ q. rw q (left-six model l))
 left-six model (NudgeCall w ∷ l) = left-six model l
+left-six model (ByteCall a ∷ l) = left-six model l
 
 -- "Words 112 to 117 are the Group Positions that the last step left under its own programming; 0 for a group unused then, or with no step since the module
 -- start.": in the file after an acting group cycle, whatever its outcome
@@ -225,6 +226,7 @@ cycleAt P model [] = false
 cycleAt P model (Step s ∷ l) = false
 cycleAt P model (FileCall kind file ∷ l) = P (fileCycle kind (configurationOf model l) file .outcome)
 cycleAt P model (NudgeCall w ∷ l) = P (nudgeCycle (configurationOf model l) w .outcome)
+cycleAt P model (ByteCall a ∷ l) = false
 
 abbrev pub answered5 : Outcome → Bool
 answered5 outcome = eqb (outcomeNumber outcome) 5
@@ -248,6 +250,7 @@ no-later model (FileCall kind file ∷ l) =
 no-later model (NudgeCall w ∷ l) =
     ignored-step (nudgeCycle (configurationOf model l) w .outcome) (messageIgnored model l)
     ∙ rw (no-later model l) (sym (later-step (cycleAt answered5 model) (cycleAt acted model) (NudgeCall w) l))
+no-later model (ByteCall a ∷ l) = no-later model l ∙ sym (later-step (cycleAt answered5 model) (cycleAt acted model) (ByteCall a) l)
 
 -- 5 "Sets MsgIgn": it stands exactly when a cycle was answered 5 and no later one acted
 pub message-ignored : (model : Model) (l : List Call) → (run model l .configuration .ignored ≡ true) ↔ NoLater (cycleAt answered5 model) (cycleAt acted model) l

@@ -8,13 +8,12 @@ use Rattle.rules.specs.declared.Model.the-variants.{M8513}
 use Rattle.rules.specs.declared.Module.{Module}
 use Rattle.rules.specs.declared.FileCycle.{FileCycle}
 use Rattle.rules.specs.declared.FileCycle.the-variants.{SetupCycle, GroupCycle, LimitCycle}
-use Rattle.rules.specs.Words.{storedAt}
+use Rattle.rules.specs.Words.{bytesOf, storedAt}
 use Rattle.rules.specs.Cycle.{outcomeNumber}
-use Rattle.rules.specs.Calls.{Call, Step, FileCall, NudgeCall}
+use Rattle.rules.specs.Calls.{Call, Step, FileCall, NudgeCall, ByteCall}
 use Rattle.rules.specs.Card.{freshModule, fileCall, fileLeft, nudgeCall}
 use Rattle.rules.specs.Run.{moduleAfter}
 use Rattle.rules.specs.Trace.{report}
-use Rattle.rules.specs.Reports.{bytesOf}
 use Rattle.rules.proofs.Computes.{machine, trace}
 use Rattle.rules.proofs.Runs.{at}
 
@@ -39,6 +38,7 @@ statuses x (Step s ∷ calls) = statuses (moduleAfter x (Step s)) calls
 statuses x (FileCall kind file ∷ calls) =
     (outcomeNumber (fileCall kind x file .outcome) ∷ take 8 (drop (statusPlace kind) (fileLeft kind x file))) ∷ statuses (moduleAfter x (FileCall kind file)) calls
 statuses x (NudgeCall w ∷ calls) = (outcomeNumber (nudgeCall x w .outcome) ∷ []) ∷ statuses (moduleAfter x (NudgeCall w)) calls
+statuses x (ByteCall a ∷ calls) = statuses (moduleAfter x (ByteCall a)) calls
 
 -- an Idle cycle leaves the words as they were sent
 abbrev pub idle : List ℕ
@@ -95,12 +95,13 @@ statusRun =
     ∷ (FileCall LimitCycle [], 2 ∷ [])
     ∷ []
 
--- what the run says of its cycles; steps are not told
+-- what the run says of its cycles; steps and byte accesses are not told
 pub told : List (Call × List ℕ) → List (List ℕ)
 told [] = []
 told ((Step s, w) ∷ cs) = told cs
 told ((FileCall kind file, w) ∷ cs) = w ∷ told cs
 told ((NudgeCall n, w) ∷ cs) = w ∷ told cs
+told ((ByteCall a, w) ∷ cs) = told cs
 
 pub status-run : statuses (freshModule M8513) (map (λ (c : Call × List ℕ). c .0) statusRun) ≡ told statusRun
 unfolding machine statuses statusRun told

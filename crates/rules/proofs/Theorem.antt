@@ -25,13 +25,14 @@ use Rattle.rules.specs.Words.{bit, wordOf, forced}
 use Rattle.rules.specs.Variants.{modelKnown, modelOf}
 use Rattle.rules.specs.Groups.{noPosition, ofGroup}
 use Rattle.rules.specs.Switches.{present, limitOf, ownerOf, ruleAt, forcedOff, forcedOn, outputOn, outputWords, answerOf}
-use Rattle.rules.specs.Motion.{scaleFactor}
+use Rattle.rules.specs.Motion.{scaleFactor, machineAt, conditions, faultConditions}
 use Rattle.rules.specs.Cycle.{isAccepted, numberOf, transmitBit, withAcknowledges, withAcknowledge, withFault, withRaw, stands, acts, underway, idleCycle, cycle, turnedAway, ignoredCycle, refusedCycle, acceptedCycle, judged}
 use Rattle.rules.specs.FileCycle.{fileLength, lengthRefusal, dataRefusal, barred, fileErrors, brought, command, clears, fileActs, fileCycle}
 use Rattle.rules.specs.Nudge.{nudgeClearBit, nudgeOutput, nudgePair, nudgeOutputBad, nudgeSetpointBad, nudgedProgramming, nudgeActs, nudgeCycle}
-use Rattle.rules.specs.Calls.{Call, Step, FileCall, NudgeCall, freshConfiguration, sound, stepConfiguration, configurationAfter}
-use Rattle.rules.specs.Card.{speedNow, conditionsNow, ruleNow, outputsNow, moduleStart, groupStart, limitStart, startOf, sinceAfter, freshModule, poweredUp, fileCall, nudgeCall, sinceNow, keptNow, stepState, stepAnswer, stepCall}
-use Rattle.rules.specs.Run.{moduleAfter, run, answers, outputBit, EachStep}
+use Rattle.rules.specs.Bus.{shownBy}
+use Rattle.rules.specs.Calls.{Read, Write, Call, Step, FileCall, NudgeCall, ByteCall, freshConfiguration, sound, stepConfiguration, configurationAfter}
+use Rattle.rules.specs.Card.{speedNow, conditionsNow, ruleNow, outputsNow, moduleStart, groupStart, limitStart, startOf, sinceAfter, freshModule, poweredUp, fileCall, nudgeCall, sinceNow, stepAnswer, keptAfter, stepState, stepCall, writeCall}
+use Rattle.rules.specs.Run.{accessed, moduleAfter, run, answers, outputBit, EachStep}
 use Rattle.rules.specs.History.{configurationOf, programmingOf, conditionsIn, positionsIn, opennessIn, lastsIn, ruleIn, outputsIn, lastPosition, previousVirtuals, expectedAnswer, expectedAnswers, isModuleStart, lastRaw, leftPositions, acted, ignoredAfter, messageIgnored}
 use Rattle.rules.proofs.Packing.{packed-bit, packed-same}
 use Rattle.rules.proofs.Programs.{model-is}
@@ -81,12 +82,29 @@ module _ (model : Model) (l : List Call) (s : Sample) where
 
 -- ---- What runs since power-up
 
-pub kept-is : (model : Model) (l : List Call) → run model l .state .kept ≡ record { position = lastPosition model l; virtuals = previousVirtuals model l }
-unfolding run moduleAfter lastPosition previousVirtuals freshModule stepCall stepState keptNow fileCall nudgeCall
-kept-is model [] = refl
-kept-is model (Step s ∷ l) = rw (configuration-is model l, outputs-are model l s, kept-is model l)
-kept-is model (FileCall kind file ∷ l) = kept-is model l
-kept-is model (NudgeCall w ∷ l) = kept-is model l
+pub position-is : (model : Model) (l : List Call) → run model l .state .kept .shown .position ≡ lastPosition model l
+unfolding run accessed moduleAfter lastPosition freshModule stepCall stepState stepAnswer keptAfter shownBy answerOf conditionsNow conditions faultConditions fileCall nudgeCall writeCall
+position-is model [] = refl
+position-is model (Step s ∷ l) = rw (configuration-is model l) (go (sound (configurationOf model l) s) (position-is model l))
+  where
+    go : (q : Bool) → run model l .state .kept .shown .position ≡ lastPosition model l
+        → cond q (conditionsNow (configurationOf model l) (run model l .state .since) s) (faultConditions (configurationOf model l) s (run model l .state .kept .shown .position)) .machine
+        ≡ cond q (machineAt (configurationOf model l) s) (lastPosition model l)
+    go true k = refl
+    go false k = k
+position-is model (FileCall kind file ∷ l) = position-is model l
+position-is model (NudgeCall w ∷ l) = position-is model l
+position-is model (ByteCall (Read n) ∷ l) = position-is model l
+position-is model (ByteCall (Write n v) ∷ l) = position-is model l
+
+pub virtuals-are : (model : Model) (l : List Call) → run model l .state .kept .shown .virtuals ≡ previousVirtuals model l
+unfolding run accessed moduleAfter previousVirtuals freshModule stepCall stepState stepAnswer keptAfter shownBy answerOf fileCall nudgeCall writeCall
+virtuals-are model [] = refl
+virtuals-are model (Step s ∷ l) = rw (configuration-is model l, outputs-are model l s)
+virtuals-are model (FileCall kind file ∷ l) = virtuals-are model l
+virtuals-are model (NudgeCall w ∷ l) = virtuals-are model l
+virtuals-are model (ByteCall (Read n) ∷ l) = virtuals-are model l
+virtuals-are model (ByteCall (Write n v) ∷ l) = virtuals-are model l
 
 -- ---- What a cycle reads and tells of the past
 
@@ -174,6 +192,7 @@ raw-is model (Step s ∷ l) = go (sound (configurationOf model l) s) (raw-is mod
     go false k = k
 raw-is model (FileCall kind file ∷ l) = file-tells kind (configurationOf model l) file .raw ∙ raw-is model l
 raw-is model (NudgeCall w ∷ l) = nudge-tells (configurationOf model l) w .raw ∙ raw-is model l
+raw-is model (ByteCall a ∷ l) = raw-is model l
 
 -- 5 "Sets MsgIgn": it is set exactly when the last acting cycle was answered 5
 pub ignored-is : (model : Model) (l : List Call) → configurationOf model l .ignored ≡ messageIgnored model l
@@ -190,6 +209,7 @@ ignored-is model (FileCall kind file ∷ l) =
 ignored-is model (NudgeCall w ∷ l) =
     let g : Configuration = configurationOf model l in
     nudge-tells g w .ignored ∙ ap (ignoredAfter (nudgeCycle g w .outcome)) (ignored-is model l)
+ignored-is model (ByteCall a ∷ l) = ignored-is model l
 
 -- a cycle that is no module start leaves the positions, accepted or not
 same-positions : (q : Bool) (started x : SinceStart) → started .positions ≡ x .positions → cond q started x .positions ≡ x .positions
@@ -198,7 +218,7 @@ same-positions false started x e = refl
 
 -- the Group Positions "that the last step left under its own programming", 0 "with no step since the module start"
 pub positions-are : (model : Model) (l : List Call) → run model l .state .since .positions ≡ leftPositions model l
-unfolding run moduleAfter leftPositions isModuleStart freshModule moduleStart stepCall stepState sinceNow sinceAfter fileCall startOf groupStart limitStart nudgeCall
+unfolding run accessed moduleAfter leftPositions isModuleStart freshModule moduleStart stepCall stepState sinceNow sinceAfter fileCall startOf groupStart limitStart nudgeCall writeCall
 positions-are model [] = refl
 positions-are model (Step s ∷ l) =
     rw (configuration-is model l, conditions-in model l s) (go (sound (configurationOf model l) s))
@@ -224,13 +244,15 @@ positions-are model (FileCall LimitCycle file ∷ l) =
 positions-are model (NudgeCall w ∷ l) =
     let x : SinceStart = run model l .state .since in
     same-positions (isAccepted (nudgeCycle (run model l .configuration) w .outcome)) x x refl ∙ positions-are model l
+positions-are model (ByteCall (Read n) ∷ l) = positions-are model l
+positions-are model (ByteCall (Write n v) ∷ l) = positions-are model l
 
 -- ---- The theorem
 
 -- the latest call first: what a step after any list of calls answers is what 01 says of it
 pub history : (model : Model) (l : List Call) (s : Sample) → stepCall (run model l) s .answer ≡ expectedAnswer model l s
 unfolding stepCall stepAnswer expectedAnswer
-history model l s = rw (configuration-is model l, outputs-are model l s, conditions-in model l s, kept-is model l)
+history model l s = rw (configuration-is model l, outputs-are model l s, conditions-in model l s, position-is model l, virtuals-are model l)
 
 -- the answers of the calls after `past`
 pub answers-from : (model : Model) (past calls : List Call) → answers (run model past) calls ≡ expectedAnswers model past calls
@@ -239,6 +261,7 @@ answers-from model past [] = refl
 answers-from model past (Step s ∷ calls) = rw (history model past s, answers-from model (Step s ∷ past) calls)
 answers-from model past (FileCall kind file ∷ calls) = answers-from model (FileCall kind file ∷ past) calls
 answers-from model past (NudgeCall w ∷ calls) = answers-from model (NudgeCall w ∷ past) calls
+answers-from model past (ByteCall a ∷ calls) = answers-from model (ByteCall a ∷ past) calls
 
 -- power-up with a module's number, whatever the place held
 pub powered-up : (x : Module) (n : ℕ) → modelKnown n ≡ true → poweredUp x n .card ≡ freshModule (modelOf n)
@@ -292,6 +315,7 @@ each-from model past [] = tt
 each-from model past (Step s ∷ calls) = (each-output model past s, each-from model (Step s ∷ past) calls)
 each-from model past (FileCall kind file ∷ calls) = each-from model (FileCall kind file ∷ past) calls
 each-from model past (NudgeCall w ∷ calls) = each-from model (NudgeCall w ∷ past) calls
+each-from model past (ByteCall a ∷ calls) = each-from model (ByteCall a ∷ past) calls
 
 -- the same in the order of time: for every number that power-up takes, whatever the place held, and every list of calls, of each step in it
 pub every-output : (x : Module) (n : ℕ) → modelKnown n ≡ true → (calls : List Call) → EachStep (OutputsRight (modelOf n)) [] (poweredUp x n .card) calls

@@ -9,6 +9,9 @@ use Rattle.rules.specs.declared.Setup.{Setup}
 use Rattle.rules.specs.declared.Configuration.{Configuration}
 use Rattle.rules.specs.declared.Sample.{Sample}
 use Rattle.rules.specs.declared.FileCycle.{FileCycle}
+use Rattle.rules.specs.declared.Outcome.{Outcome}
+use Rattle.rules.specs.declared.Answer.{Answer}
+use Rattle.rules.specs.declared.ByteRead.{ByteRead}
 use Rattle.rules.specs.Variants.{modelNumber}
 use Rattle.rules.specs.Cycle.{noAcknowledges, withFault, withRaw}
 use Rattle.rules.specs.SetupWords.{noPrograms}
@@ -61,13 +64,29 @@ stepConfiguration g s = cond (sound g s) (withRaw g (s .raw)) (withFault g true)
 
 -- ---- The calls
 
+-- a byte access: a read at an offset; a write at an offset, of a byte
+pub data Access : Type 0 where
+  Read : ℕ → Access
+  Write : ℕ → ℕ → Access
+
 -- "Setup and group calls take M0, the limit call M1, the nudge its word only"; "a cycle may bring any file or word": a list of words of any length.
+-- 02: "every list of steps, cycles and byte accesses"
 pub data Call : Type 0 where
   Step : Sample → Call
   FileCall : FileCycle → List ℕ → Call
   NudgeCall : ℕ → Call
+  ByteCall : Access → Call
+
+-- What a call answers: a step its answer; a cycle its outcome and what its file then holds, nothing for a nudge, which has none; a byte read its outcome and
+-- the byte; a byte write its outcome.
+pub data Reply : Type 0 where
+  Stepped : Answer → Reply
+  Cycled : Outcome → List ℕ → Reply
+  Showed : ByteRead → Reply
+  Written : Outcome → Reply
 
 unfoldable pub configurationAfter : Configuration → Call → Configuration
 configurationAfter g (Step s) = stepConfiguration g s
 configurationAfter g (FileCall kind file) = fileCycle kind g file .configuration
 configurationAfter g (NudgeCall w) = nudgeCycle g w .configuration
+configurationAfter g (ByteCall a) = g

@@ -25,6 +25,7 @@ use Rattle.rules.specs.declared.Speed.{Speed}
 use Rattle.rules.specs.declared.GroupState.{GroupState}
 use Rattle.rules.specs.declared.TimedState.{TimedState}
 use Rattle.rules.specs.declared.SinceStart.{SinceStart}
+use Rattle.rules.specs.declared.Bus.{Bus}
 use Rattle.rules.specs.declared.Kept.{Kept}
 use Rattle.rules.specs.declared.State.{State}
 use Rattle.rules.specs.declared.Module.{Module}
@@ -40,14 +41,16 @@ use Rattle.rules.specs.declared.CycleResult.{CycleResult}
 use Rattle.rules.specs.declared.OutputWords.{OutputWords}
 use Rattle.rules.specs.declared.Answer.{Answer}
 use Rattle.rules.specs.declared.StepResult.{StepResult}
+use Rattle.rules.specs.declared.ByteRead.{ByteRead}
 use Rattle.rules.specs.Words.{table, modulo}
 use Rattle.rules.specs.Variants.{modelKnown, modelOf, modelIn, groupMode, limitSwitch}
-use Rattle.rules.specs.Motion.{turned, machineAt, windowSteps, shortSteps, rpmOf, movementValue, movementOf, conditions, faultConditions, scale}
+use Rattle.rules.specs.Motion.{turned, windowSteps, shortSteps, rpmOf, movementValue, movementOf, conditions, faultConditions, realInputs, scale}
 use Rattle.rules.specs.Groups.{noGroup, dwellHolds, groupPosition, presetShift, presets, edge, stops, running, isOpen, groupEvent, ofGroup, noPosition}
 use Rattle.rules.specs.Switches.{timedSteps, limitOf, ownerOf, ruleAt, timedHolds, outputWords, answerOf}
 use Rattle.rules.specs.Cycle.{isAccepted}
 use Rattle.rules.specs.FileCycle.{fileCycle, fileAfter}
 use Rattle.rules.specs.Nudge.{nudgeCycle}
+use Rattle.rules.specs.Bus.{shownBy, nothingShown, requested, freshBus, lineOf, byteRead, busWrite}
 use Rattle.rules.specs.Calls.{freshConfiguration, sound, stepConfiguration}
 
 -- ---- Speed
@@ -264,7 +267,7 @@ sinceAfter p w speed x = record {
 -- a fresh module; NoModule's is what a place holds before the first power-up
 unfoldable pub freshModule : Model → Module
 freshModule model =
-    record { configuration = freshConfiguration model; state = record { since = moduleStart; kept = record { position = record { 0 = 0 }; virtuals = 0 } } }
+    record { configuration = freshConfiguration model; state = record { since = moduleStart; kept = record { shown = nothingShown; bus = freshBus } } }
 
 -- power-up of the place that holds m; 3 "gives no module", and the place stays as it was
 unfoldable pub poweredUp : Module → ℕ → CycleResult
@@ -298,22 +301,37 @@ sinceNow g x s =
     (sinceAfter (g .programming) (conditionsNow g x s) (speedNow (g .programming .setup) (x .speed) s) x)
     moduleStart
 
-unfoldable pub keptNow : Configuration → State → Sample → Kept
-keptNow g x s =
-    record { position = cond (sound g s) (machineAt g s) (x .kept .position); virtuals = outputsNow g (x .since) s .virtuals }
-
-unfoldable pub stepState : Configuration → State → Sample → State
-stepState g x s = record { since = sinceNow g (x .since) s; kept = keptNow g x s }
-
 unfoldable pub stepAnswer : Configuration → State → Sample → Answer
 stepAnswer g x s =
     answerOf (g .programming .setup) (not (sound g s))
-    (cond (sound g s) (conditionsNow g (x .since) s) (faultConditions g s (x .kept .position)))
-    (x .kept .virtuals)
+    (cond (sound g s) (conditionsNow g (x .since) s) (faultConditions g s (x .kept .shown .position)))
+    (x .kept .shown .virtuals)
     (outputsNow g (x .since) s)
+
+-- what runs on since power-up, where a step has this answer and these active real inputs
+unfoldable pub keptAfter : Kept → Answer → ℕ → Kept
+keptAfter x a inputs = record { shown = shownBy a inputs; bus = requested (x .bus) (a .changed) }
+
+unfoldable pub stepState : Configuration → State → Sample → State
+stepState g x s = record { since = sinceNow g (x .since) s; kept = keptAfter (x .kept) (stepAnswer g x s) (realInputs g s) }
 
 unfoldable pub stepCall : Module → Sample → StepResult
 stepCall m s = record {
   card = record { configuration = stepConfiguration (m .configuration) s; state = stepState (m .configuration) (m .state) s };
   answer = stepAnswer (m .configuration) (m .state) s;
 }
+
+-- the byte accesses; "Reads change nothing.", and a write nothing but the request and the mask
+unfoldable pub readCall : Module → ℕ → ByteRead
+readCall m n = byteRead (m .configuration) (m .state .kept) n
+
+abbrev pub withBus : Module → Bus → Module
+withBus m b =
+    record { configuration = m .configuration; state = record { since = m .state .since; kept = record { shown = m .state .kept .shown; bus = b } } }
+
+unfoldable pub writeCall : Module → ℕ → ℕ → CycleResult
+writeCall m n v = record { card = withBus m (busWrite (m .state .kept .bus) n v .bus); outcome = busWrite (m .state .kept .bus) n v .outcome }
+
+-- the line's level
+unfoldable pub lineLevel : Module → Bool
+lineLevel m = lineOf (m .state .kept .bus)

@@ -11,7 +11,7 @@ use Rattle.rules.specs.declared.FileCycle.the-variants.{SetupCycle, Grou
 use Rattle.rules.specs.declared.Cycle.{Cycle}
 use Rattle.rules.specs.declared.Cycle.the-variants.{OfFile, NudgeCycle}
 use Rattle.rules.specs.declared.Refusal.{Refusal}
-use Rattle.rules.specs.declared.Refusal.the-variants.{M0Length, M1Length, UnknownModule, BlockNumber, Ignored, SetupData, GroupData, LimitData, NudgeOutput, NudgeSetpoint, Transducer, TraceFile}
+use Rattle.rules.specs.declared.Refusal.the-variants.{M0Length, M1Length, UnknownModule, BlockNumber, Ignored, SetupData, GroupData, LimitData, NudgeOutput, NudgeSetpoint, Transducer, TraceFile, ByteOffset, ReadOnlyByte}
 use Rattle.rules.specs.declared.Outcome.{Outcome}
 use Rattle.rules.specs.declared.Outcome.the-variants.{Idle, Accepted, Refused}
 use Rattle.rules.specs.declared.Decision.{Decision}
@@ -19,7 +19,7 @@ use Rattle.rules.specs.Words.{bit}
 
 -- ---- Refusals and answers
 
--- 01's number of each refusal
+-- 01's number of each refusal; 02: "13 for an offset over 17", "14 for a write below 16"
 unfoldable pub numberOf : Refusal → ℕ
 numberOf M0Length = 1
 numberOf M1Length = 2
@@ -33,6 +33,8 @@ numberOf NudgeOutput = 9
 numberOf NudgeSetpoint = 10
 numberOf Transducer = 11
 numberOf TraceFile = 12
+numberOf ByteOffset = 13
+numberOf ReadOnlyByte = 14
 
 -- what an exported call returns: 0 accepted, 65535, which is no refusal's, Idle, else the refusal's number
 abbrev pub outcomeNumber : Outcome → ℕ
@@ -123,6 +125,8 @@ errorOf NudgeOutput e = record { setup = e .setup; group = e .group; limit = e .
 errorOf NudgeSetpoint e = record { setup = e .setup; group = e .group; limit = e .limit; number = e .number; setpoint = true }
 errorOf Transducer e = e
 errorOf TraceFile e = e
+errorOf ByteOffset e = e
+errorOf ReadOnlyByte e = e
 
 -- transmit is set and acknowledge clear: "Otherwise the cycle acts"
 unfoldable pub acts : Cycle → ℕ → Configuration → Bool

@@ -36,7 +36,7 @@ use Rattle.rules.specs.Switches.{timedSteps, limitOf, ownerOf, timedHold
 use Rattle.rules.specs.Cycle.{numberOf, outcomeNumber, isAccepted}
 use Rattle.rules.specs.FileCycle.{fileCycle}
 use Rattle.rules.specs.Nudge.{nudgeCycle}
-use Rattle.rules.specs.Calls.{Call, Step, FileCall, NudgeCall, freshConfiguration, sound, configurationAfter}
+use Rattle.rules.specs.Calls.{Call, Step, FileCall, NudgeCall, ByteCall, freshConfiguration, sound, configurationAfter}
 use Rattle.rules.specs.Quant.{exists, afterEach, noLater, latestSaw, heldUnder}
 
 -- ---- The programming, the fault and the starts
@@ -59,6 +59,7 @@ isModuleStart g (FileCall SetupCycle file) = isAccepted (fileCycle SetupCycle g 
 isModuleStart g (FileCall GroupCycle file) = false
 isModuleStart g (FileCall LimitCycle file) = false
 isModuleStart g (NudgeCall w) = false
+isModuleStart g (ByteCall a) = false
 
 -- "Group start: a module start or an accepted group cycle.", of group n, from 0
 unfoldable pub isGroupStart : ℕ → Configuration → Call → Bool
@@ -67,6 +68,7 @@ isGroupStart n g (FileCall SetupCycle file) = isModuleStart g (FileCall SetupCyc
 isGroupStart n g (FileCall GroupCycle file) = isAccepted (fileCycle GroupCycle g file .outcome)
 isGroupStart n g (FileCall LimitCycle file) = false
 isGroupStart n g (NudgeCall w) = false
+isGroupStart n g (ByteCall a) = false
 
 -- where the timed switch of output n, from 0, starts: "an accepted limit cycle or group start"
 unfoldable pub isLimitStart : ℕ → Configuration → Call → Bool
@@ -75,12 +77,14 @@ isLimitStart n g (FileCall SetupCycle file) = isGroupStart n g (FileCall SetupCy
 isLimitStart n g (FileCall GroupCycle file) = isGroupStart n g (FileCall GroupCycle file)
 isLimitStart n g (FileCall LimitCycle file) = isAccepted (fileCycle LimitCycle g file .outcome)
 isLimitStart n g (NudgeCall w) = false
+isLimitStart n g (ByteCall a) = false
 
 -- a call's step, if it is one, put before the steps that came earlier
 abbrev pub withStep : {A : Type 0} → Call → (Sample → A) → List A → List A
 withStep (Step s) what h = what s ∷ h
 withStep (FileCall kind file) what h = h
 withStep (NudgeCall w) what h = h
+withStep (ByteCall a) what h = h
 
 -- The steps since the last start, each as `what` held at it: `what` gets the calls before the step, and its sample.
 unfoldable pub since : {A : Type 0} → (Configuration → Call → Bool) → (List Call → Sample → A) → Model → List Call → List A
@@ -332,6 +336,7 @@ lastPosition model [] = record { 0 = 0 }
 lastPosition model (Step s ∷ l) = cond (sound (configurationOf model l) s) (machineAt (configurationOf model l) s) (lastPosition model l)
 lastPosition model (FileCall kind file ∷ l) = lastPosition model l
 lastPosition model (NudgeCall w ∷ l) = lastPosition model l
+lastPosition model (ByteCall a ∷ l) = lastPosition model l
 
 -- the virtual outputs of "the previous step (all off before the first since power-up)"
 unfoldable pub previousVirtuals : Model → List Call → ℕ
@@ -339,6 +344,7 @@ previousVirtuals model [] = 0
 previousVirtuals model (Step s ∷ l) = outputsIn model l s .virtuals
 previousVirtuals model (FileCall kind file ∷ l) = previousVirtuals model l
 previousVirtuals model (NudgeCall w ∷ l) = previousVirtuals model l
+previousVirtuals model (ByteCall a ∷ l) = previousVirtuals model l
 
 -- what a step after the calls `l` answers
 unfoldable pub expectedAnswer : Model → List Call → Sample → Answer
@@ -354,6 +360,7 @@ expectedAnswers model past [] = []
 expectedAnswers model past (Step s ∷ calls) = expectedAnswer model past s ∷ expectedAnswers model (Step s ∷ past) calls
 expectedAnswers model past (FileCall kind file ∷ calls) = expectedAnswers model (FileCall kind file ∷ past) calls
 expectedAnswers model past (NudgeCall w ∷ calls) = expectedAnswers model (NudgeCall w ∷ past) calls
+expectedAnswers model past (ByteCall a ∷ calls) = expectedAnswers model (ByteCall a ∷ past) calls
 
 -- ---- What a cycle reads and tells of the past
 
@@ -363,6 +370,7 @@ lastRaw model [] = 0
 lastRaw model (Step s ∷ l) = cond (sound (configurationOf model l) s) (s .raw) (lastRaw model l)
 lastRaw model (FileCall kind file ∷ l) = lastRaw model l
 lastRaw model (NudgeCall w ∷ l) = lastRaw model l
+lastRaw model (ByteCall a ∷ l) = lastRaw model l
 
 -- "Words 112 to 117 are the Group Positions that the last step left under its own programming; 0 for a group unused then, or with no step since the module start."
 unfoldable pub leftPositions : Model → List Call → List GroupPosition
@@ -371,6 +379,7 @@ leftPositions model (Step s ∷ l) = cond (sound (configurationOf model l) s) (p
 leftPositions model (FileCall kind file ∷ l) =
     cond (isModuleStart (configurationOf model l) (FileCall kind file)) (replicate 6 noPosition) (leftPositions model l)
 leftPositions model (NudgeCall w ∷ l) = leftPositions model l
+leftPositions model (ByteCall a ∷ l) = leftPositions model l
 
 -- the outcome of a cycle that acted: not Idle, 1 or 2
 unfoldable pub acted : Outcome → Bool
@@ -388,3 +397,4 @@ messageIgnored model [] = false
 messageIgnored model (Step s ∷ l) = messageIgnored model l
 messageIgnored model (FileCall kind file ∷ l) = ignoredAfter (fileCycle kind (configurationOf model l) file .outcome) (messageIgnored model l)
 messageIgnored model (NudgeCall w ∷ l) = ignoredAfter (nudgeCycle (configurationOf model l) w .outcome) (messageIgnored model l)
+messageIgnored model (ByteCall a ∷ l) = messageIgnored model l

@@ -11,10 +11,12 @@ pub mod LimitWords
 pub mod FileCycle
 pub mod Nudge
 pub mod Reader
+pub mod Bus
 pub mod Calls
 pub mod Card
 pub mod Quant
 pub mod History
+pub mod BusHistory
 pub mod Run
 pub mod Trace
 pub mod Reports

@@ -32,6 +32,11 @@ packed (suc n) i f = packed n (i + 1) f * 2 + digit (f i)
 abbrev pub wordOf : ℕ → (ℕ → Bool) → ℕ
 wordOf i f = packed 16 i f
 
+-- the bytes of words, "low byte first"
+unfoldable pub bytesOf : List ℕ → List ℕ
+bytesOf [] = []
+bytesOf (w ∷ ws) = w % 256 ∷ w / 256 ∷ bytesOf ws
+
 -- f at some, at each, of the n numbers from i on; at how many of them
 unfoldable pub someOf : ℕ → ℕ → (ℕ → Bool) → Bool
 someOf zero i f = false

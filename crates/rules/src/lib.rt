@@ -253,11 +253,32 @@ pub struct SinceStart {
     pub timed: [TimedState; 32],
 }
 
-// What runs on since power-up: the Machine Position of the last step not answered 11, and the virtual outputs of the last step.
+// What the last step showed: the words of its answer that the input table has, the active real inputs after the forces, and three bits. Its position is
+// the Machine Position of the last step not answered 11, since one answered 11 shows that again.
+#[repr(C)]
+pub struct Shown {
+    pub position: MachinePosition,
+    pub tach: u16,
+    pub real: u16,
+    pub virtuals: u16,
+    pub inputs: u16,
+    pub overflow: bool,
+    pub md1: bool,
+    pub md2: bool,
+}
+
+// The interrupt request and its mask.
+#[repr(C)]
+pub struct Bus {
+    pub request: bool,
+    pub mask: bool,
+}
+
+// What runs on since power-up.
 #[repr(C)]
 pub struct Kept {
-    pub position: MachinePosition,
-    pub virtuals: u16,
+    pub shown: Shown,
+    pub bus: Bus,
 }
 
 // What steps make.
@@ -338,6 +359,8 @@ pub enum Refusal {
     NudgeSetpoint,
     Transducer,
     TraceFile,
+    ByteOffset,
+    ReadOnlyByte,
 }
 
 pub enum Outcome {
@@ -352,9 +375,21 @@ pub struct Decision {
     pub outcome: Outcome,
 }
 
-// What power-up and a programming cycle answer, with the module after.
+// What power-up, a programming cycle and a byte write answer, with the module after.
 pub struct CycleResult {
     pub card: Module,
+    pub outcome: Outcome,
+}
+
+// What a byte read answers.
+pub struct ByteRead {
+    pub outcome: Outcome,
+    pub value: u8,
+}
+
+// What a byte write answers, with the request and the mask after.
+pub struct BusResult {
+    pub bus: Bus,
     pub outcome: Outcome,
 }
 
@@ -475,6 +510,26 @@ impl Acknowledges {
         group: false,
         limit: false,
         nudge: false,
+    };
+}
+
+impl Shown {
+    pub const NOTHING: Shown = Shown {
+        position: MachinePosition(0),
+        tach: 0,
+        real: 0,
+        virtuals: 0,
+        inputs: 0,
+        overflow: false,
+        md1: false,
+        md2: false,
+    };
+}
+
+impl Bus {
+    pub const FRESH: Bus = Bus {
+        request: false,
+        mask: false,
     };
 }
 

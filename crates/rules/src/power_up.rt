@@ -4,12 +4,12 @@ ghost use mathlib.Core.Path.{_≡_};
 ghost use Rattle.rules.specs.Calls.{defaultSetup};
 ghost use Rattle.rules.specs.Card.{freshModule, poweredUp};
 use crate::Acknowledges;
+use crate::Bus;
 use crate::Configuration;
 use crate::CycleResult;
 use crate::Detector;
 use crate::Errors;
 use crate::Kept;
-use crate::MachinePosition;
 use crate::Model;
 use crate::Module;
 use crate::Outcome;
@@ -17,6 +17,7 @@ use crate::Programming;
 use crate::Refusal;
 use crate::Scalars;
 use crate::Setup;
+use crate::Shown;
 use crate::SinceStart;
 use crate::State;
 use crate::variants::model_known;
@@ -102,8 +103,8 @@ impl Module {
             state: State {
                 since: SinceStart::fresh(),
                 kept: Kept {
-                    position: MachinePosition(0),
-                    virtuals: 0,
+                    shown: Shown::NOTHING,
+                    bus: Bus::FRESH,
                 },
             },
         }

@@ -15,6 +15,7 @@ pub mod Ranges
 pub mod Cases
 pub mod Reading
 pub mod Brought
+pub mod RackBus
 pub mod Sentences
 pub mod Causes
 pub mod Refusals

@@ -30,9 +30,13 @@ use Rattle.rules.specs.LimitWords.{limitErrors}
 use Rattle.rules.specs.FileCycle.{fileLength, lengthRefusal, commandAt, dataRefusal, barred, fileErrors, brought, command, clears, fileActs, fileCycle}
 use Rattle.rules.specs.Nudge.{nudgeOutputBad, nudgeSetpointBad, nudgedProgramming, nudgeActs, nudgeCycle}
 use Rattle.rules.specs.Reader.{readerRefusal, readerPart}
-use Rattle.rules.specs.Card.{freshModule, poweredUp, fileCall, nudgeCall}
+use Rattle.rules.specs.Bus.{byteRead, busWrite}
+use Rattle.rules.specs.Calls.{Access, Read, Write}
+use Rattle.rules.specs.Card.{freshModule, poweredUp, fileCall, nudgeCall, readCall, writeCall}
+use Rattle.rules.specs.Run.{accessed}
 use Rattle.rules.proofs.Cycles.{errors-underway}
 use Rattle.rules.proofs.Causes.{firstOf, Exactly, exactly}
+use Rattle.rules.proofs.Past.{by}
 
 -- ---- Cycles that take a file
 
@@ -290,3 +294,35 @@ reader-output m0 m1 n e =
     let z = eqb-false n 0 (p .0) in
     let b = ltb-false 32 n (p .1) in
     rw (eq-eqb (readerRefusal (length m0) (length m1) false n) 0 e) (part-of 19 (19 * n - 17) m1 (omega arith))
+
+-- ---- The byte accesses
+
+-- "13 for an offset over 17, first; 14 for a write below 16."
+abbrev pub accessCauses : Access → List (Bool × ℕ)
+accessCauses (Read n) = (ltb 17 n, 13) ∷ []
+accessCauses (Write n v) = (ltb 17 n, 13) ∷ (ltb n 16, 14) ∷ []
+
+-- what an access of a module is answered: 0 or its refusal's number
+abbrev pub accessNumber : Module → Access → ℕ
+accessNumber m (Read n) = outcomeNumber (readCall m n .outcome)
+accessNumber m (Write n v) = outcomeNumber (writeCall m n v .outcome)
+
+pub access-outcome : (m : Module) (a : Access) → accessNumber m a ≡ firstOf (accessCauses a)
+unfolding readCall byteRead writeCall busWrite numberOf
+access-outcome m (Read n) = by (ltb 17 n) (λ q. rw q) (λ q. rw q)
+access-outcome m (Write n v) = by (ltb 17 n) (λ q. rw q) (λ q. by (ltb n 16) (λ r. rw (q, r)) (λ r. rw (q, r)))
+
+-- each number exactly where its cause holds and none before it does, 0 where none holds
+pub access-exactly : (m : Module) (a : Access) → Exactly (accessNumber m a) Unit (accessCauses a)
+access-exactly m (Read n) = exactly (accessCauses (Read n)) _ refl (access-outcome m (Read n))
+access-exactly m (Write n v) = exactly (accessCauses (Write n v)) _ refl (access-outcome m (Write n v))
+
+-- "Neither changes a byte.": the whole module is as before; a refused read hands back 0
+pub access-refused : (m : Module) (a : Access) → (accessNumber m a ≡ 0 → ⊥) → accessed m a ≡ m
+unfolding accessed writeCall busWrite
+access-refused m (Read n) h = refl
+access-refused m (Write n v) h = by (ltb 17 n) (λ q. rw q) (λ q. by (ltb n 16) (λ r. rw (q, r)) (λ r. absurd (h (rw (q, r)))))
+
+pub read-refused : (m : Module) (n : ℕ) → (accessNumber m (Read n) ≡ 0 → ⊥) → readCall m n .value ≡ 0
+unfolding readCall byteRead
+read-refused m n h = by (ltb 17 n) (λ q. rw q) (λ q. absurd (h (rw q)))

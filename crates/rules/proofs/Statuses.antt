@@ -8,10 +8,10 @@ use Rattle.rules.specs.declared.Model.the-variants.{M8513}
 use Rattle.rules.specs.declared.Module.{Module}
 use Rattle.rules.specs.declared.FileCycle.{FileCycle}
 use Rattle.rules.specs.declared.FileCycle.the-variants.{SetupCycle, GroupCycle, LimitCycle}
-use Rattle.rules.specs.Words.{bytesOf, storedAt}
+use Rattle.rules.specs.Words.{digit, bytesOf, storedAt}
 use Rattle.rules.specs.Cycle.{outcomeNumber}
-use Rattle.rules.specs.Calls.{Call, Step, FileCall, NudgeCall, ByteCall}
-use Rattle.rules.specs.Card.{freshModule, fileCall, fileLeft, nudgeCall}
+use Rattle.rules.specs.Calls.{Read, Write, Call, Step, FileCall, NudgeCall, ByteCall}
+use Rattle.rules.specs.Card.{freshModule, fileCall, fileLeft, nudgeCall, readCall, writeCall, lineLevel}
 use Rattle.rules.specs.Run.{moduleAfter}
 use Rattle.rules.specs.Trace.{report}
 use Rattle.rules.proofs.Computes.{machine, trace}
@@ -106,6 +106,55 @@ told ((ByteCall a, w) ∷ cs) = told cs
 pub status-run : statuses (freshModule M8513) (map (λ (c : Call × List ℕ). c .0) statusRun) ≡ told statusRun
 unfolding machine statuses statusRun told
 status-run = refl
+
+-- ---- Byte accesses
+
+-- of each byte access of a list of calls its number, with the byte of a read, with the line's level after a write
+pub accesses : Module → List Call → List (ℕ × ℕ)
+accesses x [] = []
+accesses x (Step s ∷ calls) = accesses (moduleAfter x (Step s)) calls
+accesses x (FileCall kind file ∷ calls) = accesses (moduleAfter x (FileCall kind file)) calls
+accesses x (NudgeCall w ∷ calls) = accesses (moduleAfter x (NudgeCall w)) calls
+accesses x (ByteCall (Read n) ∷ calls) = (outcomeNumber (readCall x n .outcome), readCall x n .value) ∷ accesses x calls
+accesses x (ByteCall (Write n v) ∷ calls) =
+    (outcomeNumber (writeCall x n v .outcome), digit (lineLevel (moduleAfter x (ByteCall (Write n v))))) ∷ accesses (moduleAfter x (ByteCall (Write n v))) calls
+
+-- reads at some offsets
+abbrev pub reads : List ℕ → List Call
+reads offsets = map (λ (n : ℕ). ByteCall (Read n)) offsets
+
+-- a step at a raw position with these currents and virtual outputs forced on
+abbrev pub forcing : ℕ → ℕ → ℕ → Call
+forcing raw currents on = Step (record { raw = raw; currents = currents; virtuals = 0; inputson = 0; inputsoff = 0; realon = 0; realoff = 0; virtualon = on; virtualoff = 0 })
+
+pub accessRun : List Call
+accessRun =
+    -- a fresh card: SUErr; a limit cycle answered 5: MsgIgn, LSAck; with transmit clear MsgIgn stays; a nudge with bit 14 drops both
+    reads (0 ∷ 1 ∷ [])
+    ++ (FileCall LimitCycle (m1Sent 0x8000 []) ∷ reads (0 ∷ 1 ∷ []))
+    ++ (FileCall LimitCycle (m1Sent 0 []) ∷ reads (0 ∷ 1 ∷ []))
+    ++ (NudgeCall 0xC000 ∷ reads (0 ∷ 1 ∷ []))
+    -- active states FFFFh and SLCINT; a step answered 11: TrFlt, its own inputs, its forced output, which sets the request; a nudge drops the fault
+    ++ (FileCall SetupCycle (m0Sent (0x8100 ∷ 1024 ∷ 0 ∷ 0 ∷ 0 ∷ 0 ∷ 0 ∷ 0 ∷ 1 ∷ 1 ∷ 0 ∷ 0xffff ∷ []) []) ∷ forcing 2000 2 1 ∷ reads (0 ∷ 8 ∷ 10 ∷ 16 ∷ 17 ∷ []))
+    ++ (NudgeCall 0 ∷ NudgeCall 0xC000 ∷ reads (0 ∷ 16 ∷ []))
+    -- the mask raises the line at once; FEh clears no request; neither does an accepted setup with SF 2, nor does it clear what was shown of a step at 300
+    ++ (ByteCall (Write 17 3) ∷ ByteCall (Write 16 0xfe) ∷ forcing 300 5 1 ∷ FileCall SetupCycle (m0Sent [] []) ∷ [])
+    ++ (FileCall SetupCycle (m0Sent (0x8100 ∷ 2 ∷ 0 ∷ 0 ∷ 0 ∷ 0 ∷ 0 ∷ 0 ∷ 1 ∷ 1 ∷ []) []) ∷ reads (2 ∷ 3 ∷ 10 ∷ 16 ∷ 17 ∷ []))
+    -- refused accesses; a 1 written to byte 16; a step with no count; one with a count
+    ++ (ByteCall (Read 18) ∷ ByteCall (Write 18 0) ∷ ByteCall (Write 15 0) ∷ ByteCall (Write 16 1) ∷ forcing 300 0 1 ∷ ByteCall (Write 17 1) ∷ forcing 300 0 3 ∷ ByteCall (Write 17 1) ∷ ByteCall (Write 17 2) ∷ [])
+
+pub access-run : accesses (freshModule M8513) accessRun
+    ≡ (0, 0x01) ∷ (0, 0)
+    ∷ (0, 0x21) ∷ (0, 0x80)
+    ∷ (0, 0x21) ∷ (0, 0)
+    ∷ (0, 0) ∷ (0, 0x10)
+    ∷ (0, 0x80) ∷ (0, 1) ∷ (0, 2) ∷ (0, 1) ∷ (0, 0)
+    ∷ (0, 0) ∷ (0, 1)
+    ∷ (0, 1) ∷ (0, 1)
+    ∷ (0, 0x2c) ∷ (0, 1) ∷ (0, 5) ∷ (0, 1) ∷ (0, 1)
+    ∷ (13, 0) ∷ (13, 1) ∷ (14, 1) ∷ (0, 0) ∷ (0, 0) ∷ (0, 1) ∷ (0, 0) ∷ []
+unfolding machine accesses accessRun
+access-run = refl
 
 -- ---- Reports
 

@@ -14,7 +14,7 @@ use Rattle.rules.specs.declared.Model.the-variants.{NoModule, M8511, M85
 use Rattle.rules.specs.declared.Mode.the-variants.{NoMode, Mode0, Mode1, Mode2, Mode3, Mode4, Mode5}
 use Rattle.rules.specs.declared.Errors.{Errors}
 use Rattle.rules.specs.declared.Refusal.{Refusal}
-use Rattle.rules.specs.declared.Refusal.the-variants.{M0Length, M1Length, UnknownModule, BlockNumber, Ignored, SetupData, GroupData, LimitData, NudgeOutput, NudgeSetpoint, Transducer, TraceFile}
+use Rattle.rules.specs.declared.Refusal.the-variants.{M0Length, M1Length, UnknownModule, BlockNumber, Ignored, SetupData, GroupData, LimitData, NudgeOutput, NudgeSetpoint, Transducer, TraceFile, ByteOffset, ReadOnlyByte}
 use Rattle.rules.specs.declared.Action.{Action}
 use Rattle.rules.specs.declared.Limit.{Limit}
 use Rattle.rules.specs.declared.Group.{Group}
@@ -30,18 +30,23 @@ use Rattle.rules.specs.declared.GroupState.{GroupState}
 use Rattle.rules.specs.declared.FileCycle.{FileCycle}
 use Rattle.rules.specs.declared.FileCycle.the-variants.{SetupCycle, GroupCycle, LimitCycle}
 use Rattle.rules.specs.declared.Event.{Event}
-use Rattle.rules.specs.Words.{digit, word, bits, wordOf, table, storedAt, otherBit, anyWord, signedWord, differing, forced}
+use Rattle.rules.specs.declared.Configuration.{Configuration}
+use Rattle.rules.specs.declared.Shown.{Shown}
+use Rattle.rules.specs.declared.Bus.{Bus}
+use Rattle.rules.specs.declared.Kept.{Kept}
+use Rattle.rules.specs.Words.{digit, word, bits, wordOf, bytesOf, table, storedAt, otherBit, anyWord, signedWord, differing, forced}
 use Rattle.rules.specs.Variants.{groupMode, realCount, virtualCount, andedOf}
 use Rattle.rules.specs.Counts.{ahead, holds}
 use Rattle.rules.specs.Motion.{realInput, turned, scaledPosition, machinePosition, windowSteps, tachShown, tachOverflow, rpmOf, detects, conditionsWith, conditions, faultConditions}
 use Rattle.rules.specs.Groups.{groupPosition, groupEvent, isOpen}
 use Rattle.rules.specs.Switches.{moved, pairHolds, normalHolds, pulseHolds, present, admitted, enableHolds, detectorHolds, outputWords, changedCount, answerOf}
-use Rattle.rules.specs.Cycle.{numberOf, withProgramming, errorOf}
+use Rattle.rules.specs.Cycle.{numberOf, outcomeNumber, withProgramming, errorOf}
 use Rattle.rules.specs.SetupWords.{setupErrors, setupOf, noPrograms}
 use Rattle.rules.specs.GroupWords.{groupOf, ownersOf, failingGroup, groupErrors}
 use Rattle.rules.specs.LimitWords.{allZero, limitOfBlock, pulseBad, pulsesTouch, touchBad, blockBits, limitFrom, fifthTimed, limitBits, failingLimit, limitErrors, withLimits}
 use Rattle.rules.specs.Nudge.{nudgeOutput, nudgePair, nudgeOutputBad, nudgeSetpointBad, nudgedLimit}
 use Rattle.rules.specs.Reader.{readerRefusal, readerPart}
+use Rattle.rules.specs.Bus.{shownBy, nothingShown, statusBits, requested, lineOf, byteAt, byteRead, busWrite}
 use Rattle.rules.specs.Calls.{freshConfiguration}
 use Rattle.rules.specs.FileCycle.{commandAt}
 use Rattle.rules.specs.Card.{groupAfter, freshGroup}
@@ -377,8 +382,9 @@ ofSwitches =
 
 unfoldable pub ofCycles : List Case
 ofCycles =
-    -- 01's numbers
+    -- 01's numbers, and 02's
     numbers (map numberOf (M0Length ∷ M1Length ∷ UnknownModule ∷ BlockNumber ∷ Ignored ∷ SetupData ∷ GroupData ∷ LimitData ∷ NudgeOutput ∷ NudgeSetpoint ∷ Transducer ∷ TraceFile ∷ [])) (1 ∷ 2 ∷ 3 ∷ 4 ∷ 5 ∷ 6 ∷ 7 ∷ 8 ∷ 9 ∷ 10 ∷ 11 ∷ 12 ∷ [])
+    ∷ numbers (map numberOf (ByteOffset ∷ ReadOnlyByte ∷ [])) (13 ∷ 14 ∷ [])
     -- "6 to 10 set their error", and leave the others: 6, 7, 8, 9, 10 and 5 where SUErr, LSErr and I/DSet stand, and where GPErr and I/DNum do
     ∷ numbers (map (λ (r : Refusal). errorWord (errorOf r (errorsOf true false true false true))) (SetupData ∷ GroupData ∷ LimitData ∷ NudgeOutput ∷ NudgeSetpoint ∷ Ignored ∷ [])) (0x15 ∷ 0x17 ∷ 0x15 ∷ 0x1d ∷ 0x15 ∷ 0x15 ∷ [])
     ∷ numbers (map (λ (r : Refusal). errorWord (errorOf r (errorsOf false true false true false))) (SetupData ∷ GroupData ∷ LimitData ∷ NudgeOutput ∷ NudgeSetpoint ∷ Ignored ∷ [])) (0x0b ∷ 0x0a ∷ 0x0e ∷ 0x0a ∷ 0x1a ∷ 0x0a ∷ [])
@@ -521,6 +527,59 @@ ofReader =
     ∷ numbers (readerPart (counting 120) (counting 650) false 33 ++ readerPart (counting 119) (counting 650) true 1 ++ readerPart (counting 120) (counting 649) true 1) []
     ∷ []
 
+-- a card whose bits of word 0 are as f says of their numbers
+unfoldable pub flags : (ℕ → Bool) → Configuration
+flags f = record {
+  model = 8513;
+  programming = freshConfiguration M8513 .programming;
+  errors = record { setup = f 0; group = f 1; limit = f 2; number = f 3; setpoint = f 4 };
+  acknowledges = record { setup = f 13; group = f 14; limit = f 15; nudge = f 12 };
+  ignored = f 5;
+  fault = f 7;
+  raw = 0;
+}
+
+-- what a step showed whose answer and inputs are these numbers, its bits as f says
+unfoldable pub showing : (ℕ → Bool) → List ℕ → Shown
+showing f ws =
+    shownBy (record { refused = false; position = record { 0 = word ws 0 }; rpm = 0x9999; tach = word ws 1; overflow = f 10; md1 = f 8; md2 = f 9; real = word ws 2; virtuals = word ws 3; changed = 0x99 }) (word ws 4)
+
+unfoldable pub busBits : Bus → List Bool
+busBits b = b .request ∷ b .mask ∷ []
+
+-- request and mask after a byte write at an offset, where they were as given
+unfoldable pub writeBits : Bool → Bool → ℕ → ℕ → List Bool
+writeBits request mask n v = busBits (busWrite (record { request = request; mask = mask }) n v .bus)
+
+unfoldable pub ofBus : List Case
+ofBus =
+    -- "low byte first"
+    numbers (bytesOf (0x1234 ∷ 0xabcd ∷ [])) (0x34 ∷ 0x12 ∷ 0xcd ∷ 0xab ∷ [])
+    -- figure 5.1: each bit of word 0 alone; ModFlt and bit 11 are left out
+    ∷ numbers (table 16 0 (λ k. statusBits (flags (eqb k)) (showing (eqb k) []))) (1 ∷ 2 ∷ 4 ∷ 8 ∷ 16 ∷ 32 ∷ 0 ∷ 128 ∷ 256 ∷ 512 ∷ 1024 ∷ 0 ∷ 4096 ∷ 8192 ∷ 16384 ∷ 32768 ∷ [])
+    -- the eighteen bytes, where the request stands and where the mask is set
+    ∷ numbers (table 18 0 (byteAt (flags (λ k. ltb k 3)) (record { shown = showing (eqb 9) (0x0102 ∷ 0x0304 ∷ 0x0506 ∷ 0x0708 ∷ 0x090a ∷ []); bus = record { request = true; mask = false } })))
+    (7 ∷ 2 ∷ 2 ∷ 1 ∷ 4 ∷ 3 ∷ 6 ∷ 5 ∷ 8 ∷ 7 ∷ 10 ∷ 9 ∷ 0 ∷ 0 ∷ 0 ∷ 0 ∷ 1 ∷ 0 ∷ [])
+    ∷ numbers (table 2 16 (byteAt (flags (λ k. false)) (record { shown = nothingShown; bus = record { request = false; mask = true } }))) (0 ∷ 1 ∷ [])
+    -- "0 before the first"
+    ∷ numbers (table 16 0 (byteAt (flags (λ k. false)) (record { shown = nothingShown; bus = record { request = true; mask = true } }))) (replicate 16 0)
+    -- "13 for an offset over 17, first"
+    ∷ numbers (map (λ (n : ℕ). outcomeNumber (byteRead (flags (λ k. true)) (record { shown = nothingShown; bus = record { request = true; mask = true } }) n .outcome)) (0 ∷ 15 ∷ 16 ∷ 17 ∷ 18 ∷ 255 ∷ 65535 ∷ [])) (0 ∷ 0 ∷ 0 ∷ 0 ∷ 13 ∷ 13 ∷ 13 ∷ [])
+    ∷ numbers (map (λ (n : ℕ). byteRead (flags (λ k. true)) (record { shown = nothingShown; bus = record { request = true; mask = true } }) n .value) (0 ∷ 15 ∷ 16 ∷ 17 ∷ 18 ∷ 65535 ∷ [])) (0xbf ∷ 0 ∷ 1 ∷ 1 ∷ 0 ∷ 0 ∷ [])
+    -- "14 for a write below 16"
+    ∷ numbers (map (λ (n : ℕ). outcomeNumber (busWrite (record { request = true; mask = false }) n 1 .outcome)) (0 ∷ 15 ∷ 16 ∷ 17 ∷ 18 ∷ 65535 ∷ [])) (14 ∷ 14 ∷ 0 ∷ 0 ∷ 13 ∷ 13 ∷ [])
+    -- "Neither changes a byte."
+    ∷ tests (writeBits true false 15 1 ++ writeBits true false 18 1 ++ writeBits true true 15 0 ++ writeBits true true 18 0) (true ∷ false ∷ true ∷ false ∷ true ∷ true ∷ true ∷ true ∷ [])
+    -- byte 16: "stays until a 1 is written to that bit"; the bits 7 to 1 are ignored
+    ∷ tests (writeBits true true 16 1 ++ writeBits true true 16 0xff ++ writeBits true false 16 0xfe ++ writeBits false false 16 1) (false ∷ true ∷ false ∷ true ∷ true ∷ false ∷ false ∷ false ∷ [])
+    -- byte 17
+    ∷ tests (writeBits true false 17 1 ++ writeBits true true 17 2 ++ writeBits false true 17 0 ++ writeBits false false 17 0xff) (true ∷ true ∷ true ∷ false ∷ false ∷ false ∷ false ∷ true ∷ [])
+    -- "set by a step whose changed-output count isn't 0"
+    ∷ tests (busBits (requested (record { request = false; mask = true }) 0) ++ busBits (requested (record { request = false; mask = false }) 1) ++ busBits (requested (record { request = false; mask = true }) 16) ++ busBits (requested (record { request = true; mask = false }) 0)) (false ∷ true ∷ true ∷ false ∷ true ∷ true ∷ true ∷ false ∷ [])
+    -- "The line is up exactly when request and mask are both 1."
+    ∷ tests (map lineOf (record { request = true; mask = true } ∷ record { request = true; mask = false } ∷ record { request = false; mask = true } ∷ record { request = false; mask = false } ∷ [])) (true ∷ false ∷ false ∷ false ∷ [])
+    ∷ []
+
 unfoldable pub ofTrace : List Case
 ofTrace =
     -- "Files are zero elsewhere.": a section's words from its command word on
@@ -538,7 +597,7 @@ ofTrace =
 
 -- THE TABLE
 unfoldable pub cases : List Case
-cases = lettered ++ ofWords ++ ofMotion ++ ofGroups ++ ofSwitches ++ ofCycles ++ ofSetup ++ ofGroupWords ++ ofLimitWords ++ ofNudge ++ ofReader ++ ofTrace
+cases = lettered ++ ofWords ++ ofMotion ++ ofGroups ++ ofSwitches ++ ofCycles ++ ofSetup ++ ofGroupWords ++ ofLimitWords ++ ofNudge ++ ofReader ++ ofBus ++ ofTrace
 
 -- what a line says of the definitions
 abbrev pub Says : Case → Type 0

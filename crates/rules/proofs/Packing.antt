@@ -6,6 +6,7 @@ use mathlib.Core.List.{List, [], _∷_, _++_}
 use mathlib.Core.Path.{_≡_, refl, ap, _∙_}
 use native.Mathlib.Nat.{pow-suc, mul-comm, div-div-eq-div-mul}
 use native.Mathlib.Omega.{arith}
+use lib.Pow.{pow-pos}
 use lib.ListN.{length, getD}
 use lib.Dec.{eqb}
 use borrow.Author.Tests.{eq-eqb, ne-eqb}
@@ -15,10 +16,21 @@ pub digit-le : (b : Bool) → digit b ≤ 1
 digit-le true = omega arith
 digit-le false = omega arith
 
-pub packed-lt : (n i : ℕ) (f : ℕ → Bool) → packed n i f < 2 ^ n
+-- digits of which those from the m-th on are 0
+pub packed-below : (n i m : ℕ) (f : ℕ → Bool) → ((k : ℕ) → m ≤ k → k < n → f (i + k) ≡ false) → packed n i f < 2 ^ m
 unfolding packed
-packed-lt zero i f = omega arith
-packed-lt (suc n) i f = rw (pow-suc 2 n) (omega (arith, packed-lt n (i + 1) f, digit-le (f i)))
+packed-below zero i m f h = pow-pos m
+packed-below (suc n) i zero f h =
+    let e : i + 0 ≡ i = omega arith in
+    let a = packed-below n (i + 1) zero f (λ k b c. let q : i + 1 + k ≡ i + suc k = omega arith in rw q (h (suc k) (omega arith) (omega arith))) in
+    let z = rw e at (h 0 (omega arith) (omega arith)) in
+    rw z (omega arith)
+packed-below (suc n) i (suc m) f h =
+    let a = packed-below n (i + 1) m f (λ k b c. let q : i + 1 + k ≡ i + suc k = omega arith in rw q (h (suc k) (omega arith) (omega arith))) in
+    rw (pow-suc 2 m) (omega (arith, a, digit-le (f i)))
+
+pub packed-lt : (n i : ℕ) (f : ℕ → Bool) → packed n i f < 2 ^ n
+packed-lt n i f = packed-below n i n f (λ k a b. absurd (omega arith))
 
 lowest : (q : Bool) (w : ℕ) → eqb ((w * 2 + digit q) / 1 % 2) 1 ≡ q
 lowest true w = eq-eqb ((w * 2 + 1) / 1 % 2) 1 (omega arith)

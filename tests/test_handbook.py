@@ -440,6 +440,37 @@ class Steps(unittest.TestCase):
         self.assertEqual(table("code"), [["tachometer"] + [str((2 * 200 + 3 * 10**code) // (2 * 3 * 10**code)) for code in range(4)]])
 
 
+class RackBus(unittest.TestCase):
+    def test_bytes(self):
+        text, rows = rules("Bus"), {row[0]: row[1:] for row in table("bytes")}
+        words = [word.strip() for word in clause(text, "inputTable").split("∷")[:-1]]
+        shown = {"statusBits g x": "errors", "x .position .0": "Machine Position", "x .tach": "tachometer", "x .real": "real outputs", "x .virtuals": "virtual outputs", "x .inputs": "active real inputs"}
+        for number, word in enumerate(words[:6]):
+            row = rows["%d–%d" % (2 * number, 2 * number + 1)]
+            self.assertEqual(row[0], str(number))
+            self.assertTrue(row[1].startswith(shown[word]), word)
+        self.assertEqual((words[6:], rows["12–15"]), (["0", "0"], ["6, 7", "0"]))
+        self.assertEqual(constant(text, "tableBytes"), 2 * len(words))
+        self.assertIn("interrupt request", rows[str(constant(text, "requestByte"))][1])
+        self.assertIn("mask", rows[str(constant(text, "maskByte"))][1])
+        self.assertEqual(set().union(*(span(row) for row in rows)), set(range(constant(text, "maskByte") + 1)))
+
+    def test_bits_of_word_0(self):
+        rows = table("bit of input word 0")
+        self.assertEqual([row[0] for row in rows], [str(bit) for bit in range(16)])
+        names = {"SUErr": "g .errors .setup", "GPErr": "g .errors .group", "LSErr": "g .errors .limit", "I/DNum": "g .errors .number", "I/DSet": "g .errors .setpoint", "MsgIgn": "g .ignored", "ModFlt": "false"}
+        names |= {"TrFlt": "g .fault", "MD1": "x .md1", "MD2": "x .md2", "TachOv": "x .overflow", "": "false"}
+        names |= {"I/DAck": "g .acknowledges .nudge", "SUAck": "g .acknowledges .setup", "GPAck": "g .acknowledges .group", "LSAck": "g .acknowledges .limit"}
+        bits = re.search(r"bits\s*\((.*) ∷ \[\]\)", clause(rules("Bus"), "statusBits"), re.S)[1]
+        self.assertEqual([names[row[1]] for row in rows], [" ".join(bit.split()) for bit in bits.split("∷")])
+        self.assertEqual({row[1] for row in rows if row[2].startswith("never")}, {name for name, bit in names.items() if bit == "false"})
+
+    def test_refused_offsets(self):
+        text, causes = rules("Bus"), {row[0]: row[2] for row in table("number")}
+        self.assertIn("offset over %d" % constant(text, "maskByte"), causes["13"])
+        self.assertIn("offset below %d" % constant(text, "tableBytes"), causes["14"])
+
+
 class Traces(unittest.TestCase):
     def test_sections(self):
         counts, rows = cases(rules("Trace"), "sectionCount"), {row[0]: row[1:] for row in table("section")}
@@ -492,7 +523,7 @@ class Header(unittest.TestCase):
         self.assertEqual(set(defined.values()) - {0, 65535}, set(of_number.values()) - {4, 11, 12})
 
     def test_calls(self):
-        declared = re.findall(r"^(?:uint16_t|chimneyrye_answer) (chimneyrye_\w+)\(", HEADER, re.M)
+        declared = re.findall(r"^\w+ (chimneyrye_\w+)\(", HEADER, re.M)
         self.assertEqual([row[0].strip("`") for row in table("call", "The card from C")], declared)
         of_number = cases(rules("Cycle"), "numberOf")
         returns = {row[0].strip("`"): set(numbers(row[1])) for row in table("call", "The card from C")}
@@ -502,6 +533,8 @@ class Header(unittest.TestCase):
             self.assertEqual(returns["chimneyrye_" + name], {0, 65535, of_number["Ignored"], of_number[length], of_number[data]})
         self.assertEqual(returns["chimneyrye_nudge"], {0, 65535, of_number["Ignored"], of_number["NudgeOutput"], of_number["NudgeSetpoint"]})
         self.assertEqual(returns["chimneyrye_power_up"], {0, of_number["UnknownModule"]})
+        self.assertEqual(returns["chimneyrye_read_byte"], {0, of_number["ByteOffset"]})
+        self.assertEqual(returns["chimneyrye_write_byte"], {0, of_number["ByteOffset"], of_number["ReadOnlyByte"]})
 
     def test_fields_that_the_text_names(self):
         declared = {field for name in ["configuration", "errors", "sample", "answer", "module"] for field in fields(name)}

@@ -161,7 +161,7 @@ impl Cycle for SetupCycle<'_> {
         let mut words = [0; SETUP_WORDS];
         words.copy_from_slice(&self.0[..SETUP_WORDS]);
         match setup_errors(&words) {
-            0 => Ok(decode_setup(&words, module.last_step.raw)),
+            0 => Ok(decode_setup(&words, module.last_raw)),
             errors => Err(Finding::new(Refusal::SetupData, errors)),
         }
     }

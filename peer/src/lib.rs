@@ -1,7 +1,9 @@
-//! The limit switch card: programming cycles, step, block reader, frames of
-//! the serial link and trace program. Written from documents 01 and 02 and
-//! the 8500 manual, to be compared with the other implementation.
+//! The limit switch card: programming cycles, step, bytes of the rack bus,
+//! block reader, frames of the serial link and trace program. Written from
+//! documents 01 and 02 and the 8500 manual, to be compared with the other
+//! implementation.
 
+mod bus;
 mod cycles;
 mod step;
 

@@ -1,8 +1,10 @@
 //! The module: its state, power-up and starts.
 
+use crate::bus::Interrupt;
 use crate::group::{GroupState, Groups, GROUPS, NO_GROUPS};
-use crate::motion::{MachinePosition, Motion};
+use crate::motion::Motion;
 use crate::setup::{Detector, Scalars, Setup, HIGHEST_SCALE};
+use crate::step::StepAnswer;
 use crate::switch::Switches;
 
 /// Why a call is turned away.
@@ -19,6 +21,8 @@ pub enum Refusal {
     NudgeNumber = 9,
     NudgeSetpoint = 10,
     TransducerFault = 11,
+    ByteOffset = 13,
+    ByteReadOnly = 14,
     FrameData = 15,
     FrameBuffer = 16,
     FrameForm = 17,
@@ -45,13 +49,6 @@ impl Refusal {
 /// SUErr, which stands at power-up.
 const SETUP_ERROR: u8 = 1 << 0;
 
-/// The last step since power-up that was not answered 11.
-#[derive(Clone, Copy, Debug, PartialEq, Eq)]
-pub(crate) struct LastStep {
-    pub raw: u16,
-    pub position: MachinePosition,
-}
-
 /// One limit switch card.
 #[derive(Clone, Debug, PartialEq, Eq)]
 pub struct Module {
@@ -69,9 +66,15 @@ pub struct Module {
     pub(crate) message_ignored: bool,
     /// Words 112 to 117: positions that the last step left.
     pub(crate) group_positions: [u16; GROUPS],
-    pub(crate) last_step: LastStep,
-    /// Virtual outputs of the previous step, however it was answered.
-    pub(crate) last_virtual: u16,
+    /// Raw position of the last step since power-up not answered 11; 0 if
+    /// none.
+    pub(crate) last_raw: u16,
+    /// What the last step since power-up answered, 11 or not; all 0 before
+    /// the first.
+    pub(crate) last_answer: StepAnswer,
+    /// Real inputs that were active in that step, forces applied.
+    pub(crate) last_inputs: u16,
+    pub(crate) interrupt: Interrupt,
 }
 
 impl Module {
@@ -111,12 +114,10 @@ impl Module {
             fault: false,
             message_ignored: false,
             group_positions: [0; GROUPS],
-            // Raw and position count as 0 where no step was made.
-            last_step: LastStep {
-                raw: 0,
-                position: MachinePosition(0),
-            },
-            last_virtual: 0,
+            last_raw: 0,
+            last_answer: StepAnswer::default(),
+            last_inputs: 0,
+            interrupt: Interrupt::default(),
         })
     }
 

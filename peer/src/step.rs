@@ -1,7 +1,7 @@
 //! One step of 200 µs: nine words in, outputs and readings out.
 
 use crate::group::{Group, GroupPosition, GroupSample, Kind};
-use crate::module::{LastStep, Module, Refusal};
+use crate::module::{Module, Refusal};
 use crate::motion::{direction_count, machine_position, MachinePosition, Reading, TURN};
 
 /// Words of a sample.
@@ -15,7 +15,7 @@ const REAL: u32 = 0x0000_ffff;
 const VIRTUAL: u32 = 0xffff_0000;
 
 /// What a step answers.
-#[derive(Clone, Copy, Debug, PartialEq, Eq)]
+#[derive(Clone, Copy, Debug, Default, PartialEq, Eq)]
 pub struct StepAnswer {
     /// Refusal 11, or none.
     pub refusal: Option<Refusal>,
@@ -90,10 +90,21 @@ impl Module {
     /// inputs, then forces on and off of real inputs, real outputs and
     /// virtual outputs.
     pub fn step(&mut self, sample: &[u16; SAMPLE_WORDS]) -> StepAnswer {
+        let inputs = self.active_inputs(sample);
+        let answer = if sample[0] >= TURN || self.fault {
+            self.fault_step(sample)
+        } else {
+            self.sound_step(sample, inputs)
+        };
+        self.last_answer = answer;
+        self.last_inputs = inputs as u16;
+        self.interrupt.request |= answer.changed != 0;
+        answer
+    }
+
+    fn sound_step(&mut self, sample: &[u16; SAMPLE_WORDS], inputs: u32) -> StepAnswer {
         let raw = sample[0];
-        if raw >= TURN || self.fault {
-            return self.fault_step(sample);
-        }
+        self.last_raw = raw;
         let q = direction_count(raw, self.setup.counter_clockwise);
         let machine = machine_position(q, self.setup.scale, self.setup.offset);
         let updates = self.motion.step(q, &self.setup);
@@ -102,7 +113,7 @@ impl Module {
         }
         let view = StepView {
             machine,
-            inputs: self.active_inputs(sample),
+            inputs,
             reading: self.motion.reading,
             stop: updates.stop,
         };
@@ -111,17 +122,17 @@ impl Module {
         } else {
             self.group_outputs(&view)
         };
-        self.last_step = LastStep {
-            raw,
-            position: machine,
-        };
-        self.answer(sample, None, view.reading, self.unblocked(lit, &view))
+        self.answer(sample, machine, view.reading, self.unblocked(lit, &view))
     }
 
     fn fault_step(&mut self, sample: &[u16; SAMPLE_WORDS]) -> StepAnswer {
         self.fault = true;
         self.module_start();
-        self.answer(sample, Some(Refusal::TransducerFault), Reading::FAULT, 0)
+        let position = self.last_answer.machine_position;
+        StepAnswer {
+            refusal: Some(Refusal::TransducerFault),
+            ..self.answer(sample, position, Reading::FAULT, 0)
+        }
     }
 
     /// A real input is active where its current equals its active state.
@@ -168,9 +179,9 @@ impl Module {
 
     /// Applies the output forces and counts the changed virtual outputs.
     fn answer(
-        &mut self,
+        &self,
         sample: &[u16; SAMPLE_WORDS],
-        refusal: Option<Refusal>,
+        machine_position: MachinePosition,
         reading: Reading,
         lit: u32,
     ) -> StepAnswer {
@@ -179,11 +190,10 @@ impl Module {
         let off = join(real_off, virtual_off);
         let outputs = forced(lit, on, off) & self.present();
         let virtual_outputs = (outputs >> 16) as u16;
-        let changed = changed_count(self.last_virtual, virtual_outputs);
-        self.last_virtual = virtual_outputs;
+        let changed = changed_count(self.last_answer.virtual_outputs, virtual_outputs);
         StepAnswer {
-            refusal,
-            machine_position: self.last_step.position,
+            refusal: None,
+            machine_position,
             rpm: reading.rpm,
             tach: reading.tach,
             tach_overflow: reading.tach_overflow,

@@ -105,6 +105,10 @@ pub(crate) enum Call {
     Nudge(u16),
     Step([u16; SAMPLE_WORDS]),
     Block(Block, Vec<u16>, Vec<u16>),
+    /// The offset.
+    ReadByte(u16),
+    /// The offset, and a word whose low byte is written.
+    WriteByte(u16, u16),
     Frame(FrameCall),
 }
 
@@ -130,6 +134,8 @@ pub(crate) fn read_call(words: &mut Words<impl BufRead>) -> Option<Call> {
             };
             Call::Block(block, read_file(words)?, read_file(words)?)
         }
+        7 => Call::ReadByte(words.next_word()?),
+        8 => Call::WriteByte(words.next_word()?, words.next_word()?),
         9 => Call::Frame(FrameCall::write(words)?),
         10 => Call::Frame(FrameCall::read(words)?),
         _ => return None,
@@ -184,7 +190,12 @@ pub(crate) fn make_call(
             write_cycle("nudge", answer, module, output)?;
             writeln!(output)
         }
-        (Call::Step(sample), Some(module)) => write_step(&module.step(&sample), output),
+        (Call::Step(sample), Some(module)) => {
+            let answer = module.step(&sample);
+            write_step(&answer, module.line(), output)
+        }
+        (Call::ReadByte(offset), Some(module)) => read_byte(offset, module, output),
+        (Call::WriteByte(offset, word), Some(module)) => write_byte(offset, word, module, output),
     }
 }
 
@@ -197,6 +208,25 @@ fn power_up(number: u16, module: &mut Option<Module>, output: &mut impl Write) -
         }
         Err(refusal) => writeln!(output, "power {}", refusal.number()),
     }
+}
+
+fn read_byte(offset: u16, module: &Module, output: &mut impl Write) -> io::Result<()> {
+    let (refusal, value) = match module.read_byte(offset) {
+        Ok(value) => (0, value),
+        Err(refusal) => (refusal.number(), 0),
+    };
+    writeln!(output, "read {refusal} {value:02x}")
+}
+
+fn write_byte(
+    offset: u16,
+    word: u16,
+    module: &mut Module,
+    output: &mut impl Write,
+) -> io::Result<()> {
+    let answer = module.write_byte(offset, word as u8);
+    let refusal = answer.map_or_else(Refusal::number, |()| 0);
+    writeln!(output, "write {refusal} {}", u8::from(module.line()))
 }
 
 fn write_words(words: &[u16], output: &mut impl Write) -> io::Result<()> {
@@ -237,11 +267,11 @@ fn write_cycle(
     )
 }
 
-fn write_step(answer: &StepAnswer, output: &mut impl Write) -> io::Result<()> {
+fn write_step(answer: &StepAnswer, line: bool, output: &mut impl Write) -> io::Result<()> {
     let [md1, md2] = answer.detectors.map(u8::from);
     writeln!(
         output,
-        "step {} {} {} {} {} {md1} {md2} {:04x} {:04x} {}",
+        "step {} {} {} {} {} {md1} {md2} {:04x} {:04x} {} {}",
         answer.refusal.map_or(0, |refusal| refusal.number()),
         answer.machine_position.0,
         answer.rpm,
@@ -249,6 +279,7 @@ fn write_step(answer: &StepAnswer, output: &mut impl Write) -> io::Result<()> {
         u8::from(answer.tach_overflow),
         answer.real_outputs,
         answer.virtual_outputs,
-        answer.changed
+        answer.changed,
+        u8::from(line)
     )
 }

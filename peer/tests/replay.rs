@@ -53,6 +53,16 @@ impl Calls {
         self
     }
 
+    fn read(mut self, offset: u16) -> Calls {
+        self.0.extend([7, offset]);
+        self
+    }
+
+    fn write(mut self, offset: u16, value: u16) -> Calls {
+        self.0.extend([8, offset, value]);
+        self
+    }
+
     fn write_frame(mut self, capacity: u16, words: &[u16]) -> Calls {
         self.0.extend([9, capacity, words.len() as u16]);
         self.0.extend(words);
@@ -79,7 +89,7 @@ fn program_from_standard_input_to_output() {
     let list = bytes(&calls().power(8511).step(sample(5, 0, 0)).0);
     assert_eq!(
         common::run_program(env!("CARGO_BIN_EXE_replay"), &list),
-        "power 0\nstep 0 5 0 0 0 0 0 0000 0000 0\n"
+        "power 0\nstep 0 5 0 0 0 0 0 0000 0000 0 0\n"
     );
     assert_eq!(
         common::run_program(env!("CARGO_BIN_EXE_replay"), &[9, 9, 9]),
@@ -106,11 +116,15 @@ fn calls_without_a_module() {
         .file(3, &[])
         .nudge(5)
         .step([0; 9])
+        .read(0)
+        .write(17, 1)
         .power(8514)
+        .read(18)
+        .write(0, 0)
         .step([0; 9]);
     assert_eq!(
         list.lines(),
-        "none\nnone\nnone\nnone\nnone\npower 3\nnone\n"
+        "none\nnone\nnone\nnone\nnone\nnone\nnone\npower 3\nnone\nnone\nnone\n"
     );
 }
 
@@ -123,7 +137,7 @@ fn refused_power_up_keeps_the_module() {
         .step([1024, 0, 0, 0, 0, 0xffff, 0, 0, 0]);
     assert_eq!(
         list.lines(),
-        "power 0\nstep 0 9 0 0 0 0 0 00ff 0000 0\npower 3\nstep 11 9 0 0 0 0 0 00ff 0000 0\n"
+        "power 0\nstep 0 9 0 0 0 0 0 00ff 0000 0 0\npower 3\nstep 11 9 0 0 0 0 0 00ff 0000 0 0\n"
     );
 }
 
@@ -136,7 +150,7 @@ fn power_up_replaces_the_module() {
         .step(sample(7, 0, 0));
     assert_eq!(
         list.lines(),
-        "power 0\nstep 11 0 0 0 0 0 0 0000 0000 0\npower 0\nstep 0 7 0 0 0 0 0 0000 0000 0\n"
+        "power 0\nstep 11 0 0 0 0 0 0 0000 0000 0 0\npower 0\nstep 0 7 0 0 0 0 0 0000 0000 0 0\n"
     );
 }
 
@@ -180,7 +194,7 @@ fn group_lines() {
         format!(
             "power 0\n\
              group 0 2 00 0 0 0000 0000 0000 {zeros}\n\
-             step 0 100 0 0 0 0 0 0000 0000 0\n\
+             step 0 100 0 0 0 0 0 0000 0000 0 0\n\
              group idle 0 00 0 0 0000 0000 0000 {zeros}\n\
              group 7 2 02 0 0 0007 0001 006e {zeros}\n\
              group 1 2 02 0 0\n"
@@ -213,7 +227,7 @@ fn limit_and_nudge_lines() {
             "power 0\n\
              setup 0 1 00 0 0 {setup_zeros}\n\
              limit 0 5 00 0 0 0000 0000 {zeros}\n\
-             step 0 5 0 0 0 0 0 0000 0005 2\n\
+             step 0 5 0 0 0 0 0 0000 0005 2 0\n\
              nudge 9 d 08 0 0\n\
              nudge idle d 08 0 0\n\
              nudge idle 5 08 0 0\n\
@@ -222,7 +236,7 @@ fn limit_and_nudge_lines() {
              limit idle 9 08 0 1 0000 0000 {zeros}\n\
              limit 5 d 08 0 1 4000 0000 {zeros}\n\
              limit 2 d 08 0 1\n\
-             step 11 5 0 0 0 0 0 0000 0000 2\n\
+             step 11 5 0 0 0 0 0 0000 0000 2 0\n\
              nudge idle 5 08 1 1\n"
         )
     );
@@ -242,7 +256,7 @@ fn step_line_has_all_readings() {
     // 2519 × 511 mod 1024 is 41.
     assert_eq!(
         text.lines().last(),
-        Some("step 0 41 149648 32767 1 1 1 0000 8000 0")
+        Some("step 0 41 149648 32767 1 1 1 0000 8000 0 0")
     );
 }
 
@@ -270,6 +284,123 @@ fn block_lines() {
             words(0x1002),
             words(0x1000 + 591)
         )
+    );
+}
+
+/// docs/REPLAY.md's list: a setup that is accepted, a step with two virtual
+/// outputs forced on, then byte accesses. SLCINT is clear.
+#[test]
+fn byte_lines() {
+    let mut m0 = vec![0x8001, 1024, 0, 0, 0, 0, 0, 0, 1, 1, 0, 0];
+    m0.resize(120, 0);
+    let list = calls()
+        .power(8511)
+        .file(1, &m0)
+        .step([7, 0, 0, 0, 0, 0, 0, 3, 0])
+        .write(17, 1)
+        .read(0)
+        .read(0x13);
+    assert_eq!(
+        list.lines(),
+        format!(
+            "power 0\n\
+             setup 0 1 00 0 0 {}\n\
+             step 0 7 0 0 0 0 0 0000 0003 0 0\n\
+             write 0 0\n\
+             read 0 00\n\
+             read 13 00\n",
+            ["0000"; 10].join(" ")
+        )
+    );
+}
+
+#[test]
+fn read_and_write_lines() {
+    let list = calls()
+        .power(8513)
+        .read(0)
+        .read(1)
+        .file(1, &setup_file(&[command(SLCINT), (11, 0xffff)]))
+        .step([300, 0xbeef, 0, 0, 0, 0, 0, 0x00c0, 0])
+        .read(0)
+        .read(1)
+        .read(2)
+        .read(3)
+        .read(8)
+        .read(10)
+        .read(11)
+        .read(15)
+        .read(16)
+        .read(18)
+        .read(65535);
+    let text = list.lines();
+    let read: Vec<&str> = text
+        .lines()
+        .filter_map(|line| line.strip_prefix("read "))
+        .collect();
+    assert_eq!(
+        read.join(", "),
+        "0 01, 0 00, 0 00, 0 20, 0 2c, 0 01, 0 c0, 0 ef, 0 be, 0 00, 0 01, 13 00, 13 00"
+    );
+}
+
+/// The level after each step and each write, refused ones too.
+#[test]
+fn the_line_in_the_lines() {
+    let forced = |on| [0, 0, 0, 0, 0, 0, 0, on, 0];
+    let list = calls()
+        .power(8511)
+        .file(1, &setup_file(&[command(SLCINT)]))
+        .write(17, 1)
+        .step(forced(1))
+        .step(forced(1))
+        .write(15, 1)
+        .write(18, 1)
+        .write(17, 0)
+        .write(17, 1)
+        .step([1024, 0, 0, 0, 0, 0, 0, 1, 0])
+        .write(16, 1)
+        .step(forced(3))
+        .power(8511)
+        .read(16)
+        .read(17)
+        .step(forced(0));
+    let lines = list.lines();
+    let lines: Vec<&str> = lines.lines().skip(2).collect();
+    assert_eq!(
+        lines,
+        [
+            "write 0 0",
+            "step 0 0 0 0 0 0 0 0000 0001 1 1",
+            "step 0 0 0 0 0 0 0 0000 0001 0 1",
+            "write 14 1",
+            "write 13 1",
+            "write 0 0",
+            "write 0 1",
+            "step 11 0 0 0 0 0 0 0000 0001 0 1",
+            "write 0 0",
+            "step 11 0 0 0 0 0 0 0000 0003 1 1",
+            "power 0",
+            "read 0 00",
+            "read 0 00",
+            "step 0 0 0 0 0 0 0 0000 0000 0 0",
+        ]
+    );
+}
+
+#[test]
+fn only_the_low_byte_of_a_written_word_counts() {
+    let list = calls()
+        .power(8511)
+        .write(17, 0x0100)
+        .read(17)
+        .write(17, 0xff01)
+        .read(17)
+        .write(0x0111, 0)
+        .read(17);
+    assert_eq!(
+        list.lines(),
+        "power 0\nwrite 0 0\nread 0 00\nwrite 0 0\nread 0 01\nwrite 13 0\nread 0 01\n"
     );
 }
 
@@ -338,8 +469,8 @@ fn frames_beside_a_module() {
         .step([2000, 0, 0, 0, 0, 0, 0, 0, 0]);
     assert_eq!(
         list.lines(),
-        "frame 15 0\nnone\npower 0\nstep 0 7 0 0 0 0 0 0000 0000 0\n\
-         data 17 0\nstep 11 7 0 0 0 0 0 0000 0000 0\n"
+        "frame 15 0\nnone\npower 0\nstep 0 7 0 0 0 0 0 0000 0000 0 0\n\
+         data 17 0\nstep 11 7 0 0 0 0 0 0000 0000 0 0\n"
     );
 }
 
@@ -362,7 +493,7 @@ fn longest_frame_calls() {
 
 #[test]
 fn unknown_opcode_is_bad_and_ends() {
-    for opcode in [7, 8, 11, 12, 65535] {
+    for opcode in [11, 12, 13, 256 + 7, 65535] {
         assert_eq!(lines_of(&bytes(&[opcode])), "bad\n");
         assert_eq!(lines_of(&bytes(&[opcode, 0, 0, 0, 0])), "bad\n");
     }
@@ -390,6 +521,8 @@ fn p85_cut_calls_are_bad_with_or_without_a_module() {
         calls().nudge(3),
         calls().step([0; 9]),
         calls().block(0, 1, &[1], &[2]),
+        calls().read(0),
+        calls().write(17, 1),
         calls().write_frame(8, &[1, 2, 3]),
         calls().read_frame(8, &[1, 2, 3]),
     ];

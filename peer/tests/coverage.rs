@@ -1,13 +1,14 @@
 //! What the lists of cycles reach: every answer, every status bit. What the
-//! lists of frames are answered.
+//! lists of frames and of bytes are answered.
 
 use std::collections::BTreeMap;
 
-use peer::generate::{cycle_list, frame_list, CallList};
+use peer::generate::{byte_list, cycle_list, frame_list, step_list, CallList, USUAL_STEPS};
 use peer::replay;
 
 const LISTS: usize = 2000;
 const FRAME_LISTS: u64 = 500;
+const BYTE_LISTS: u64 = 400;
 
 /// How often something was seen.
 #[derive(Default)]
@@ -131,14 +132,7 @@ fn assert_status_words(words: &Counts) {
 
 #[test]
 fn lists_of_frames_reach_every_answer() {
-    let mut calls = Counts::default();
-    for seed in 1..=FRAME_LISTS {
-        for line in answers(&frame_list(seed)).lines() {
-            let fields: Vec<&str> = line.split(' ').collect();
-            calls.add(answer_of(&fields));
-        }
-    }
-    calls.print();
+    let calls = answered((1..=FRAME_LISTS).map(frame_list));
     calls.assert_all_seen(names("power", "0 3"));
     calls.assert_all_seen(names("nudge", "idle 5"));
     calls.assert_all_seen(["none".to_string()]);
@@ -152,24 +146,70 @@ fn lists_of_frames_reach_every_answer() {
     assert!(calls.of("bad") > FRAME_LISTS as usize / 20);
 }
 
+/// How often each call was answered how, over lists.
+fn answered(lists: impl Iterator<Item = CallList>) -> Counts {
+    let mut calls = Counts::default();
+    for list in lists {
+        for line in answers(&list).lines() {
+            let fields: Vec<&str> = line.split(' ').collect();
+            calls.add(answer_of(&fields));
+        }
+    }
+    calls.print();
+    calls
+}
+
+#[test]
+fn lists_of_bytes_reach_every_answer() {
+    let calls = answered((1..=BYTE_LISTS).map(byte_list));
+    calls.assert_all_seen(names("power", "0 3"));
+    calls.assert_all_seen(names("setup", "idle 0 1 5 6"));
+    calls.assert_all_seen(names("group", "idle 0 1 5 7"));
+    calls.assert_all_seen(names("limit", "idle 0 2 5 8"));
+    calls.assert_all_seen(names("nudge", "idle 0 5 9 10"));
+    calls.assert_all_seen(["none".to_string()]);
+    let of = |names: &[&str]| names.iter().map(|name| calls.of(name)).sum::<usize>();
+    let accesses = of(&["read 0", "read 13", "write 0", "write 13", "write 14"]);
+    assert!(accesses >= 250_000, "{accesses}");
+    for (name, least) in [("step 0", 10_000), ("step 11", 2000), ("bad", 20)] {
+        assert!(calls.of(name) > least, "seldom seen: {name}");
+    }
+}
+
+#[test]
+fn other_lists_have_byte_accesses() {
+    let steps = answered((1..=20).map(|seed| step_list(seed, USUAL_STEPS)));
+    let cycles = answered((1..=100).map(cycle_list));
+    for calls in [steps, cycles] {
+        for name in names("read", "0 13").chain(names("write", "0 13 14")) {
+            assert!(calls.of(&name) > 30, "seldom seen: {name}");
+        }
+    }
+}
+
 #[test]
 fn a_seed_gives_one_list_and_another_seed_another() {
-    for list in [cycle_list, frame_list] {
+    for list in [cycle_list, frame_list, byte_list] {
         assert_eq!(list(7), list(7));
         assert_ne!(list(7).bytes(), list(8).bytes());
     }
 }
 
 /// A list that is broken off ends with `bad`, no other has it.
+fn assert_answered(list: &CallList) {
+    let answers = answers(list);
+    assert_eq!(answers.lines().count(), list.lines());
+    let bad = answers.lines().position(|line| line == "bad");
+    assert!(bad.is_none_or(|bad| bad + 1 == list.lines()));
+}
+
 #[test]
 fn every_call_is_answered() {
     for seed in 0..200 {
         for list in [cycle_list(seed), frame_list(seed)] {
             assert_eq!(list.steps(), 0);
-            let answers = answers(&list);
-            assert_eq!(answers.lines().count(), list.lines());
-            let bad = answers.lines().position(|line| line == "bad");
-            assert!(bad.is_none_or(|bad| bad + 1 == list.lines()));
+            assert_answered(&list);
         }
+        assert_answered(&byte_list(seed));
     }
 }

@@ -44,6 +44,15 @@ impl CallList {
         self.counted(m1);
     }
 
+    pub fn read_byte(&mut self, offset: u16) {
+        self.call(&[7, offset]);
+    }
+
+    /// A byte written; of the word only the low byte counts.
+    pub fn write_byte(&mut self, offset: u16, word: u16) {
+        self.call(&[8, offset, word]);
+    }
+
     /// A frame written from the low bytes of the words into a buffer of
     /// `capacity` bytes.
     pub fn write_frame(&mut self, capacity: u16, words: &[u16]) {
@@ -105,17 +114,19 @@ mod tests {
         list.nudge(0x1234);
         list.step(&[1, 2, 3, 4, 5, 6, 7, 8, 9]);
         list.block(1, 32, &[5], &[]);
+        list.read_byte(17);
+        list.write_byte(16, 0x0301);
         list.write_frame(493, &[6, 7]);
         list.read_frame(0, &[8]);
         let words = [
-            0, 8511, 2, 2, 7, 8, 4, 0x1234, 5, 1, 2, 3, 4, 5, 6, 7, 8, 9, 6, 1, 32, 1, 5, 0, 9,
-            493, 2, 6, 7, 10, 0, 1, 8,
+            0, 8511, 2, 2, 7, 8, 4, 0x1234, 5, 1, 2, 3, 4, 5, 6, 7, 8, 9, 6, 1, 32, 1, 5, 0, 7, 17,
+            8, 16, 0x0301, 9, 493, 2, 6, 7, 10, 0, 1, 8,
         ];
         assert_eq!(list.words, words);
-        assert_eq!((list.lines(), list.steps()), (7, 1));
+        assert_eq!((list.lines(), list.steps()), (9, 1));
         assert_eq!(list.bytes()[..6], [0, 0, 0x3f, 0x21, 2, 0]);
         list.break_off(vec![9]);
         assert_eq!(list.bytes().len(), 2 * words.len() + 1);
-        assert_eq!(list.lines(), 8);
+        assert_eq!(list.lines(), 10);
     }
 }

@@ -1,13 +1,16 @@
-//! Lists of programming calls without steps.
+//! Lists of programming calls without steps, with some byte accesses.
 
 use crate::generate::call_list::{little_endian, CallList};
 use crate::generate::file_kind::{FileKind, FILE_KINDS};
 use crate::generate::ladder::Ladder;
 use crate::generate::numbers::Numbers;
 
+/// Byte accesses follow one call in so many.
+const ACCESSES_EVERY: u32 = 6;
+
 /// The list of a seed.
 pub fn cycle_list(seed: u64) -> CallList {
-    let mut ladder = Ladder::new(seed);
+    let mut ladder = Ladder::new(seed, ACCESSES_EVERY);
     if ladder.numbers.one_in(8) {
         calls_without_module(&mut ladder);
     }
@@ -27,15 +30,17 @@ pub fn cycle_list(seed: u64) -> CallList {
 fn draw_tail(numbers: &mut Numbers) -> Vec<u8> {
     let mut call = CallList::default();
     let words = [0; 9].map(|_| numbers.word());
-    match numbers.below(8) {
+    match numbers.below(10) {
         0 => call.power_up(words[0]),
         1 => call.nudge(words[0]),
         2 => call.step(&words),
         3 => call.block(words[0], words[1], &words[2..5], &words[5..]),
         opcode @ 4..=6 => call.file(opcode as u16 - 3, &words),
+        7 => call.read_byte(words[0]),
+        8 => call.write_byte(words[0], words[1]),
         _ => {
             let unknown = numbers.between(11, 65535);
-            return little_endian(&[numbers.pick(&[7, 8, unknown, unknown]), words[0]]);
+            return little_endian(&[numbers.pick(&[11, 12, unknown, unknown]), words[0]]);
         }
     }
     let mut bytes = call.bytes();

@@ -1,15 +1,19 @@
 //! A ladder program that makes the calls of a list, and knows what they
 //! should have put in force. Cycles are sent in every manner: once, again,
-//! with the acknowledge left standing, with and without ClrErr.
+//! with the acknowledge left standing, with and without ClrErr. Bytes are
+//! read and written between them.
 
 use crate::blocks::limit_block_at;
 use crate::cycles::{NudgeCycle, CLEAR_ERRORS, M0_WORDS, M1_WORDS, NUDGE_CLEAR_ERRORS, TRANSMIT};
+use crate::generate::byte_calls::byte_accesses;
 use crate::generate::call_list::CallList;
 use crate::generate::file_kind::FileKind;
 use crate::generate::numbers::Numbers;
 use crate::generate::program::{Program, NORMAL};
 use crate::group::GROUPS;
 use crate::limit_block::{block_pair, PAIRS};
+use crate::setup::SLC_INTERRUPT;
+use crate::step::SAMPLE_WORDS;
 use crate::switch::OUTPUTS;
 
 pub struct Ladder {
@@ -20,17 +24,20 @@ pub struct Ladder {
     acknowledged: [bool; 3],
     /// An error may stand.
     error_stands: bool,
+    /// Byte accesses follow one call in so many.
+    pub accesses_every: u32,
 }
 
 impl Ladder {
     /// A ladder program without a module yet.
-    pub fn new(seed: u64) -> Ladder {
+    pub fn new(seed: u64, accesses_every: u32) -> Ladder {
         Ladder {
             numbers: Numbers::new(seed),
             list: CallList::default(),
             program: Program::fresh(0),
             acknowledged: [false; 3],
             error_stands: true,
+            accesses_every,
         }
     }
 
@@ -40,6 +47,7 @@ impl Ladder {
         self.acknowledged = [false; 3];
         self.error_stands = true;
         self.list.power_up(self.program.module_number());
+        self.access_bytes();
     }
 
     /// A number that no module has.
@@ -47,6 +55,29 @@ impl Ladder {
         let any = self.numbers.word() & 0x1fff;
         let number = self.numbers.pick(&[0, 8510, 8514, 8500, 0xffff, any]);
         self.list.power_up(number);
+        self.access_bytes();
+    }
+
+    pub fn step(&mut self, sample: &[u16; SAMPLE_WORDS]) {
+        self.list.step(sample);
+        self.access_bytes();
+    }
+
+    fn call_file(&mut self, kind: FileKind, file: &[u16]) {
+        self.list.file(kind.opcode(), file);
+        self.access_bytes();
+    }
+
+    fn call_nudge(&mut self, word: u16) {
+        self.list.nudge(word);
+        self.access_bytes();
+    }
+
+    /// After some of the calls.
+    fn access_bytes(&mut self) {
+        if self.numbers.one_in(self.accesses_every) {
+            byte_accesses(&mut self.numbers, &mut self.list);
+        }
     }
 
     /// The present programming with new words for one kind.
@@ -71,6 +102,14 @@ impl Ladder {
     pub fn keeping_setup(&mut self) {
         let mut program = self.program.clone();
         program.draw_keeping_setup(&mut self.numbers);
+        self.sound_cycle_of(FileKind::Setup, program);
+    }
+
+    /// Such a setup cycle with SLCINT.
+    pub fn interrupting_setup(&mut self) {
+        let mut program = self.program.clone();
+        program.draw_keeping_setup(&mut self.numbers);
+        program.m0[0] |= SLC_INTERRUPT;
         self.sound_cycle_of(FileKind::Setup, program);
     }
 
@@ -139,9 +178,9 @@ impl Ladder {
         }
         let command = TRANSMIT | if clear_errors { CLEAR_ERRORS } else { 0 };
         let file = self.draw_file(kind, program, command);
-        self.list.file(kind.opcode(), &file);
+        self.call_file(kind, &file);
         while self.numbers.one_in(10) {
-            self.list.file(kind.opcode(), &file);
+            self.call_file(kind, &file);
         }
         if self.numbers.one_in(12) {
             self.acknowledged[kind as usize] = true;
@@ -154,14 +193,14 @@ impl Ladder {
     fn clear_transmit(&mut self, kind: FileKind, program: &Program) {
         let command = self.numbers.pick(&[0, 0, CLEAR_ERRORS]);
         let file = self.draw_file(kind, program, command);
-        self.list.file(kind.opcode(), &file);
+        self.call_file(kind, &file);
     }
 
     fn send_wrong_length(&mut self, kind: FileKind, program: &Program) {
         let command = self.numbers.pick(&[TRANSMIT | CLEAR_ERRORS, TRANSMIT, 0]);
         let mut file = self.draw_file(kind, program, command);
         file.resize(self.draw_wrong_length(file.len()), 0);
-        self.list.file(kind.opcode(), &file);
+        self.call_file(kind, &file);
     }
 
     fn draw_wrong_length(&mut self, right: usize) -> usize {
@@ -182,13 +221,13 @@ impl Ladder {
 
     /// Sends a nudge word with transmit set, then mostly with it clear.
     pub fn nudge(&mut self, word: u16) {
-        self.list.nudge(TRANSMIT | word);
+        self.call_nudge(TRANSMIT | word);
         while self.numbers.one_in(12) {
-            self.list.nudge(TRANSMIT | word);
+            self.call_nudge(TRANSMIT | word);
         }
         if !self.numbers.one_in(15) {
             let any = self.numbers.word();
-            self.list.nudge(any & !TRANSMIT);
+            self.call_nudge(any & !TRANSMIT);
         }
     }
 

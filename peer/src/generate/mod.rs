@@ -2,6 +2,10 @@
 //! every answer and every state of the card. The same seed gives the same
 //! bytes on every machine.
 
+mod byte_calls;
+#[cfg(test)]
+mod byte_coverage;
+mod byte_lists;
 mod call_list;
 #[cfg(test)]
 mod coverage;
@@ -19,6 +23,7 @@ mod spoil;
 mod step_lists;
 mod traces;
 
+pub use byte_lists::byte_list;
 pub use call_list::CallList;
 pub use cycle_lists::cycle_list;
 pub use frame_lists::frame_list;

@@ -1,4 +1,5 @@
-//! Lists with long runs of steps, programming cycles between them.
+//! Lists with long runs of steps, programming cycles and byte accesses
+//! between them.
 
 use crate::generate::call_list::CallList;
 use crate::generate::file_kind::{FileKind, FILE_KINDS};
@@ -8,11 +9,14 @@ use crate::generate::samples::Samples;
 /// Steps of a list where no number is given: two long windows of the speed.
 pub const USUAL_STEPS: usize = 5200;
 
+/// Byte accesses follow one call in so many.
+const ACCESSES_EVERY: u32 = 30;
+
 /// The list of a seed.
 pub fn step_list(seed: u64, steps: usize) -> CallList {
     let mut run = Run {
         // Other numbers than the list of cycles has for the seed.
-        ladder: Ladder::new(!seed),
+        ladder: Ladder::new(!seed, ACCESSES_EVERY),
         samples: Samples::new(),
         steps,
     };
@@ -72,7 +76,7 @@ impl Run {
         let ladder = &mut self.ladder;
         let mut sample = self.samples.next(&mut ladder.numbers, &ladder.program);
         sample[0] = raw.unwrap_or(sample[0]);
-        ladder.list.step(&sample);
+        ladder.step(&sample);
     }
 
     /// What a ladder program does between two segments.

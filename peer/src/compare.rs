@@ -1,6 +1,5 @@
 //! Two programs on the same inputs: whether they print the same.
 
-use std::fmt;
 use std::io::{Read, Write};
 use std::ops::Range;
 use std::process::{Child, Command, ExitStatus, Stdio};
@@ -10,8 +9,8 @@ use std::thread;
 use std::time::{Duration, Instant};
 
 use crate::generate::{
-    cycle_list, damaged_trace, frame_list, step_list, whole_trace, CallList, USUAL_SAMPLES,
-    USUAL_STEPS,
+    byte_list, cycle_list, damaged_trace, frame_list, step_list, whole_trace, CallList,
+    USUAL_SAMPLES, USUAL_STEPS,
 };
 
 /// Inputs compared at the same time.
@@ -26,6 +25,7 @@ const SHOWN: usize = 300;
 pub enum InputKind {
     Cycles,
     Steps,
+    Bytes,
     Frames,
     Traces,
     Damaged,
@@ -36,6 +36,7 @@ impl InputKind {
         [
             InputKind::Cycles,
             InputKind::Steps,
+            InputKind::Bytes,
             InputKind::Frames,
             InputKind::Traces,
             InputKind::Damaged,
@@ -48,6 +49,7 @@ impl InputKind {
         match self {
             InputKind::Cycles => "cycles",
             InputKind::Steps => "steps",
+            InputKind::Bytes => "bytes",
             InputKind::Frames => "frames",
             InputKind::Traces => "traces",
             InputKind::Damaged => "damaged",
@@ -58,6 +60,7 @@ impl InputKind {
         match self {
             InputKind::Cycles => Input::of_list(&cycle_list(seed)),
             InputKind::Steps => Input::of_list(&step_list(seed, USUAL_STEPS)),
+            InputKind::Bytes => Input::of_list(&byte_list(seed)),
             InputKind::Frames => Input::of_list(&frame_list(seed)),
             InputKind::Traces => Input::of_trace(whole_trace(seed, USUAL_SAMPLES)),
             InputKind::Damaged => Input::of_trace(damaged_trace(seed)),
@@ -95,25 +98,31 @@ pub struct Totals {
     pub calls: u64,
     /// Those of them that are steps.
     pub steps: u64,
+    /// Those of them that are byte reads or writes.
+    pub byte_accesses: u64,
     /// Lists on which the programs differed or one of them failed.
     pub differences: u64,
 }
 
-impl fmt::Display for Totals {
-    fn fmt(&self, formatter: &mut fmt::Formatter) -> fmt::Result {
-        write!(
-            formatter,
-            "compared {} lists, {} calls, {} steps, {} differences",
+impl Totals {
+    /// The last line of a comparison; it counts byte accesses where the lists
+    /// are made of them.
+    pub fn line(&self, kind: InputKind) -> String {
+        let accesses = match kind {
+            InputKind::Bytes => format!(", {} byte accesses", self.byte_accesses),
+            _ => String::new(),
+        };
+        format!(
+            "compared {} lists, {} calls, {} steps{accesses}, {} differences",
             self.lists, self.calls, self.steps, self.differences
         )
     }
-}
 
-impl Totals {
     fn add(&mut self, result: &ListResult) {
         self.lists += 1;
         self.calls += result.calls;
         self.steps += result.steps;
+        self.byte_accesses += result.byte_accesses;
         self.differences += u64::from(result.difference.is_some());
     }
 }
@@ -121,6 +130,7 @@ impl Totals {
 struct ListResult {
     calls: u64,
     steps: u64,
+    byte_accesses: u64,
     difference: Option<String>,
 }
 
@@ -171,10 +181,13 @@ impl Programs<'_> {
             .paths
             .map(|path| run_program(path, &input.bytes, self.limit));
         let first: &[u8] = outputs[0].as_deref().unwrap_or_default();
-        let steps = lines(first).filter(|line| is_step(line)).count();
+        let count = |is_counted: fn(&[u8]) -> bool| {
+            lines(first).filter(|line| is_counted(line)).count() as u64
+        };
         ListResult {
-            calls: lines(first).count() as u64,
-            steps: steps as u64,
+            calls: count(|_| true),
+            steps: count(is_step),
+            byte_accesses: count(is_byte_access),
             difference: self
                 .difference(&outputs, input.lines)
                 .map(|difference| format!("{} seed {seed}: {difference}", kind.name())),
@@ -211,6 +224,11 @@ fn lines(output: &[u8]) -> impl Iterator<Item = &[u8]> {
 /// A step of the replay program, or a sample of the trace program.
 fn is_step(line: &[u8]) -> bool {
     line.starts_with(b"step") || line.first().is_some_and(u8::is_ascii_digit)
+}
+
+/// One that a module answered.
+fn is_byte_access(line: &[u8]) -> bool {
+    line.starts_with(b"read ") || line.starts_with(b"write ")
 }
 
 /// The first differing line of both, with its number from 1.

@@ -1,8 +1,11 @@
 //! The comparison: programs that agree, that differ and that fail.
 
+mod common;
+
 use std::process::{Command, Output};
 use std::time::{Duration, Instant};
 
+use common::{run_program, run_with_arguments};
 use peer::compare::{InputKind, Programs};
 
 const REPLAY: &str = env!("CARGO_BIN_EXE_replay");
@@ -67,6 +70,44 @@ fn replay_agrees_with_itself() {
     assert_eq!(frames.status.code(), Some(0));
 }
 
+/// The last line has one number more.
+#[test]
+fn byte_accesses_are_counted() {
+    let output = compare(&["bytes", "10", "1", REPLAY, REPLAY]);
+    assert_eq!(output.status.code(), Some(0));
+    let text = text(&output);
+    let numbers: Vec<usize> = text
+        .split(' ')
+        .filter_map(|word| word.parse().ok())
+        .collect();
+    let [10, calls, steps, accesses, 0] = numbers[..] else {
+        panic!("{text}");
+    };
+    assert_eq!(
+        text,
+        format!(
+            "compared 10 lists, {calls} calls, {steps} steps, {accesses} byte accesses, \
+             0 differences\n"
+        )
+    );
+    let lines = (1..=10).flat_map(|seed| replay_lines(&["bytes", &seed.to_string()]));
+    let lines: Vec<String> = lines.collect();
+    let count = |names: &[&str]| {
+        let is_one = |line: &&String| names.contains(&line.split(' ').next().unwrap_or_default());
+        lines.iter().filter(is_one).count()
+    };
+    let expected = (lines.len(), count(&["step"]), count(&["read", "write"]));
+    assert_eq!((calls, steps, accesses), expected);
+    assert!(accesses > 3000);
+}
+
+/// The replay program's lines for a list.
+fn replay_lines(arguments: &[&str]) -> Vec<String> {
+    let list = run_with_arguments(env!("CARGO_BIN_EXE_lists"), arguments);
+    let text = run_program(REPLAY, &list.stdout);
+    text.lines().map(String::from).collect()
+}
+
 #[test]
 fn camrun_agrees_with_itself() {
     for kind in ["traces", "damaged"] {
@@ -95,10 +136,13 @@ fn a_changed_line_is_reported() {
 }
 
 #[test]
-fn a_changed_line_of_a_frame_is_reported() {
-    let output = compare(&["frames", "1", "2", REPLAY, &program("changed_line")]);
-    assert_eq!(output.status.code(), Some(1));
-    assert!(text(&output).starts_with("frames seed 2: line 20 differs\n"));
+fn a_changed_line_of_another_kind_is_reported() {
+    for kind in ["frames", "bytes"] {
+        let output = compare(&[kind, "1", "2", REPLAY, &program("changed_line")]);
+        assert_eq!(output.status.code(), Some(1));
+        let start = format!("{kind} seed 2: line 20 differs\n");
+        assert!(text(&output).starts_with(&start));
+    }
 }
 
 #[test]

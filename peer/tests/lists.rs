@@ -40,6 +40,16 @@ fn lists_of_steps_have_as_many_as_asked_for() {
 }
 
 #[test]
+fn lists_of_bytes_have_reads_writes_and_steps() {
+    // A seed whose list is not broken off.
+    let text = answers(&["bytes", "5"]);
+    for name in ["read ", "write ", "step "] {
+        let lines = text.lines().filter(|line| line.starts_with(name));
+        assert!(lines.count() > 20, "{name}");
+    }
+}
+
+#[test]
 fn lists_of_frames_have_both_calls() {
     // A seed whose list is not broken off.
     let text = answers(&["frames", "2"]);
@@ -52,9 +62,11 @@ fn lists_of_frames_have_both_calls() {
 
 #[test]
 fn lists_repeat() {
-    let list = written(LISTS, &["frames", "9"]);
-    assert_eq!(written(LISTS, &["frames", "9"]), list);
-    assert_ne!(written(LISTS, &["frames", "10"]), list);
+    for kind in ["frames", "bytes"] {
+        let list = written(LISTS, &[kind, "9"]);
+        assert_eq!(written(LISTS, &[kind, "9"]), list);
+        assert_ne!(written(LISTS, &[kind, "10"]), list);
+    }
     let list = written(LISTS, &["steps", "9", "500"]);
     assert_eq!(written(LISTS, &["steps", "9", "500"]), list);
     assert_ne!(written(LISTS, &["steps", "10", "500"]), list);
@@ -77,6 +89,8 @@ fn wrong_arguments_show_the_usage() {
         &["cycles", "x"],
         &["frames"],
         &["frames", "1", "2"],
+        &["bytes"],
+        &["bytes", "1", "2"],
         &["steps", "1", "2", "3"],
         &[],
     ];

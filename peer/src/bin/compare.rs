@@ -25,7 +25,7 @@ fn main() -> ExitCode {
         limit: LIMIT,
     };
     let totals = programs.compare(kind, seeds, print);
-    print(&totals.to_string());
+    print(&totals.line(kind));
     if totals.differences == 0 {
         ExitCode::SUCCESS
     } else {
@@ -47,7 +47,7 @@ fn seeds(count: &str, first: &str) -> Option<Range<u64>> {
 
 fn usage() -> ExitCode {
     eprintln!(
-        "usage: compare cycles|steps|frames|traces|damaged COUNT FIRST_SEED PROGRAM_A PROGRAM_B"
+        "usage: compare cycles|steps|bytes|frames|traces|damaged COUNT FIRST_SEED PROGRAM_A PROGRAM_B"
     );
     ExitCode::from(USAGE_STATUS)
 }

@@ -59,7 +59,12 @@ plain_structs! {
     struct SinceStart {
         speed: Speed, groups: [GroupState; 6], positions: [u16; 6], timed: [TimedState; 32],
     }
-    struct Kept { position: u16, virtuals: u16, }
+    struct Shown {
+        position: u16, tach: u16, real: u16, virtuals: u16, inputs: u16,
+        overflow: bool, md1: bool, md2: bool,
+    }
+    struct Bus { request: bool, mask: bool, }
+    struct Kept { shown: Shown, bus: Bus, }
     struct State { since: SinceStart, kept: Kept, }
     struct Module { configuration: Configuration, state: State, }
     struct Sample {
@@ -70,4 +75,5 @@ plain_structs! {
         refused: bool, position: u16, rpm: u32, tach: u16, overflow: bool,
         md1: bool, md2: bool, real: u16, virtuals: u16, changed: u16,
     }
+    struct Byte { number: u16, value: u8, }
 }

@@ -5,7 +5,7 @@ pub mod bench;
 pub mod layout;
 pub mod replay;
 
-use layout::{Answer, Module, Sample};
+use layout::{Answer, Byte, Module, Sample};
 
 /// What a cycle returns that was Idle.
 pub const IDLE: u16 = 65535;
@@ -17,6 +17,9 @@ extern "C" {
     fn chimneyrye_limit(module: *mut Module, file: *mut u16, words: usize) -> u16;
     fn chimneyrye_nudge(module: *mut Module, word: u16) -> u16;
     fn chimneyrye_step(module: *mut Module, sample: Sample) -> Answer;
+    fn chimneyrye_read_byte(module: *const Module, offset: u16) -> Byte;
+    fn chimneyrye_write_byte(module: *mut Module, offset: u16, value: u8) -> u16;
+    fn chimneyrye_line(module: *const Module) -> bool;
 }
 
 /// A cycle over a file.
@@ -49,5 +52,17 @@ impl Module {
 
     pub fn step(&mut self, sample: Sample) -> Answer {
         unsafe { chimneyrye_step(self, sample) }
+    }
+
+    pub fn read_byte(&self, offset: u16) -> Byte {
+        unsafe { chimneyrye_read_byte(self, offset) }
+    }
+
+    pub fn write_byte(&mut self, offset: u16, value: u8) -> u16 {
+        unsafe { chimneyrye_write_byte(self, offset, value) }
+    }
+
+    pub fn line(&self) -> bool {
+        unsafe { chimneyrye_line(self) }
     }
 }

@@ -7,7 +7,7 @@ use peer::replay::FrameCall;
 use peer::words::Words;
 use peer::{read_block, Block, SAMPLE_WORDS};
 
-use crate::layout::{Answer, Module, Sample};
+use crate::layout::{Answer, Byte, Module, Sample};
 use crate::{FileCycle, IDLE};
 
 /// The module, and whether one was powered up.
@@ -50,6 +50,8 @@ impl Card<'_> {
             4 => Some(self.nudge(words.next_word()?, output)),
             5 => Some(self.step(read_sample(words)?, output)),
             6 => block(words, output),
+            7 => Some(self.read_byte(words.next_word()?, output)),
+            8 => Some(self.write_byte(words.next_word()?, words.next_word()?, output)),
             9 => Some(FrameCall::write(words)?.make(output)),
             10 => Some(FrameCall::read(words)?.make(output)),
             _ => None,
@@ -100,7 +102,25 @@ impl Card<'_> {
         if !self.powered {
             return writeln!(output, "none");
         }
-        write_step(&self.module.step(sample), output)
+        let answer = self.module.step(sample);
+        write_step(&answer, self.module.line(), output)
+    }
+
+    fn read_byte(&mut self, offset: u16, output: &mut impl Write) -> io::Result<()> {
+        if !self.powered {
+            return writeln!(output, "none");
+        }
+        let Byte { number, value } = self.module.read_byte(offset);
+        writeln!(output, "read {number} {value:02x}")
+    }
+
+    /// Of the word only the low byte is written.
+    fn write_byte(&mut self, offset: u16, word: u16, output: &mut impl Write) -> io::Result<()> {
+        if !self.powered {
+            return writeln!(output, "none");
+        }
+        let answer = self.module.write_byte(offset, word as u8);
+        writeln!(output, "write {answer} {}", u8::from(self.module.line()))
     }
 
     fn write_cycle(&self, name: &str, answer: u16, output: &mut impl Write) -> io::Result<()> {
@@ -179,10 +199,10 @@ fn write_words(words: &[u16], output: &mut impl Write) -> io::Result<()> {
         .try_for_each(|word| write!(output, " {word:04x}"))
 }
 
-fn write_step(a: &Answer, output: &mut impl Write) -> io::Result<()> {
+fn write_step(a: &Answer, line: bool, output: &mut impl Write) -> io::Result<()> {
     writeln!(
         output,
-        "step {} {} {} {} {} {} {} {:04x} {:04x} {}",
+        "step {} {} {} {} {} {} {} {:04x} {:04x} {} {}",
         if a.refused { 11 } else { 0 },
         a.position,
         a.rpm,
@@ -192,6 +212,7 @@ fn write_step(a: &Answer, output: &mut impl Write) -> io::Result<()> {
         u8::from(a.md2),
         a.real,
         a.virtuals,
-        a.changed
+        a.changed,
+        u8::from(line)
     )
 }

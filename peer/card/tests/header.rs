@@ -4,9 +4,9 @@
 mod host;
 
 use card_loop::layout::{
-    Acknowledges, Advance, Answer, Configuration, Detector, Errors, Group, GroupState, Kept, Last,
-    Limit, Module, Movement, Pair, Programming, Sample, Scalars, Setup, SinceStart, Speed, State,
-    Switch, TimedState, Window,
+    Acknowledges, Advance, Answer, Bus, Byte, Configuration, Detector, Errors, Group, GroupState,
+    Kept, Last, Limit, Module, Movement, Pair, Programming, Sample, Scalars, Setup, Shown,
+    SinceStart, Speed, State, Switch, TimedState, Window,
 };
 
 /// What a C program of this folder prints.
@@ -39,11 +39,14 @@ fn c_lays_the_structs_out_as_rust_does() {
         ("group_state", GroupState::places()),
         ("timed_state", TimedState::places()),
         ("since_start", SinceStart::places()),
+        ("shown", Shown::places()),
+        ("bus", Bus::places()),
         ("kept", Kept::places()),
         ("state", State::places()),
         ("module", Module::places()),
         ("sample", Sample::places()),
         ("answer", Answer::places()),
+        ("byte", Byte::places()),
     ]
     .iter()
     .map(|(name, places)| format!("{name} {places}\n"))

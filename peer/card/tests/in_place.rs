@@ -2,12 +2,12 @@
 //! programming between them, give peer's answers and touch nothing beside it.
 
 use card_loop::layout::{
-    Acknowledges, Advance, Detector, Errors, Group, Last, Limit, Module, Pair, Scalars, Setup,
-    Switch,
+    Acknowledges, Advance, Bus, Byte, Detector, Errors, Group, Last, Limit, Module, Pair, Scalars,
+    Setup, Shown, Switch,
 };
 use card_loop::replay;
 use card_loop::FileCycle;
-use peer::generate::{cycle_list, frame_list, step_list, CallList};
+use peer::generate::{byte_list, cycle_list, frame_list, step_list, CallList};
 
 const GUARD: [u8; 64] = [0xa5; 64];
 
@@ -66,6 +66,11 @@ fn cycles_on_a_lent_module_answer_as_peer_does() {
     compare((1..=200).map(|seed| (seed, cycle_list(seed))));
 }
 
+#[test]
+fn bytes_of_a_lent_module_answer_as_peer_does() {
+    compare((1..=100).map(|seed| (seed, byte_list(seed))));
+}
+
 /// The frames are peer's; the calls between them are the archive's.
 #[test]
 fn frames_between_calls_answer_as_peer_does() {
@@ -105,6 +110,10 @@ fn any_numbers_in_the_module_are_harmless() {
         place.module.cycle(kind, &mut [65535; 120]);
         place.module.cycle(kind, &mut []);
     }
+    for offset in 0..20 {
+        place.module.read_byte(offset);
+        place.module.write_byte(offset, 255);
+    }
     assert_eq!((place.before, place.after), (GUARD, GUARD));
 }
 
@@ -142,6 +151,28 @@ fn a_refused_power_up_leaves_a_running_module_as_it_was() {
         assert_eq!(card, before);
     }
     assert_eq!(real_outputs(&mut card), 1);
+}
+
+/// 13 and 14 change no byte of the module, and neither does a read.
+#[test]
+fn reads_and_refused_writes_leave_the_module_as_it_was() {
+    let mut card = lit_card();
+    card.state.kept.bus = Bus {
+        request: true,
+        mask: true,
+    };
+    let before = card;
+    for offset in 0..=65535 {
+        let Byte { number, value } = card.read_byte(offset);
+        assert_eq!(number, if offset > 17 { 13 } else { 0 });
+        assert!(number == 0 || value == 0);
+        let refusal = if offset > 17 { 13 } else { 14 };
+        if offset != 16 && offset != 17 {
+            assert_eq!(card.write_byte(offset, 255), refusal);
+        }
+    }
+    assert!(card.line());
+    assert_eq!(card, before);
 }
 
 /// A number that the rules do not name lights nothing.
@@ -254,8 +285,18 @@ fn the_programming_is_read_where_it_lies() {
     let answer = card.step(replay::sample_of([512, 0, 0, 0, 0, 0, 0, 0xa5a5, 0]));
     let kept = &card.state.kept;
     let x = &card.state.since;
-    assert_eq!((answer.position, kept.position), (510, 510));
-    assert_eq!((answer.virtuals, kept.virtuals), (0xa5a5, 0xa5a5));
+    assert_eq!((answer.position, answer.virtuals), (510, 0xa5a5));
+    let shown = Shown {
+        position: 510,
+        virtuals: 0xa5a5,
+        inputs: 0xffff,
+        ..Shown::default()
+    };
+    let bus = Bus {
+        request: true,
+        mask: false,
+    };
+    assert_eq!((kept.shown, kept.bus), (shown, bus));
     assert_eq!((answer.changed, card.configuration.raw), (8, 512));
     assert_eq!(
         x.speed.last,

@@ -126,9 +126,23 @@ int main(void) {
     FIELD(chimneyrye_since_start, positions);
     FIELD(chimneyrye_since_start, timed);
     puts("");
+    printf("shown %zu", sizeof(chimneyrye_shown));
+    FIELD(chimneyrye_shown, position);
+    FIELD(chimneyrye_shown, tach);
+    FIELD(chimneyrye_shown, real);
+    FIELD(chimneyrye_shown, virtuals);
+    FIELD(chimneyrye_shown, inputs);
+    FIELD(chimneyrye_shown, overflow);
+    FIELD(chimneyrye_shown, md1);
+    FIELD(chimneyrye_shown, md2);
+    puts("");
+    printf("bus %zu", sizeof(chimneyrye_bus));
+    FIELD(chimneyrye_bus, request);
+    FIELD(chimneyrye_bus, mask);
+    puts("");
     printf("kept %zu", sizeof(chimneyrye_kept));
-    FIELD(chimneyrye_kept, position);
-    FIELD(chimneyrye_kept, virtuals);
+    FIELD(chimneyrye_kept, shown);
+    FIELD(chimneyrye_kept, bus);
     puts("");
     printf("state %zu", sizeof(chimneyrye_state));
     FIELD(chimneyrye_state, since);
@@ -160,6 +174,10 @@ int main(void) {
     FIELD(chimneyrye_answer, real);
     FIELD(chimneyrye_answer, virtuals);
     FIELD(chimneyrye_answer, changed);
+    puts("");
+    printf("byte %zu", sizeof(chimneyrye_byte));
+    FIELD(chimneyrye_byte, number);
+    FIELD(chimneyrye_byte, value);
     puts("");
     return 0;
 }

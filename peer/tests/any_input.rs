@@ -82,6 +82,13 @@ fn random_call(numbers: &mut Numbers, card: &mut Card) {
             card.module.nudge_cycle(0);
         }
         5 => card.clear_errors(),
+        6..=8 => {
+            let offset = numbers.word();
+            let value = numbers.next() as u8;
+            assert_eq!(card.module.read_byte(offset).is_ok(), offset <= 17);
+            let is_written = card.module.write_byte(offset, value).is_ok();
+            assert_eq!(is_written, [16, 17].contains(&offset));
+        }
         _ => {}
     }
 }
@@ -161,7 +168,7 @@ fn programs_take_any_bytes() {
                 .skip(1)
                 .step_by(2)
                 .for_each(|high| *high = 0);
-            input.iter_mut().step_by(2).for_each(|low| *low %= 11);
+            input.iter_mut().step_by(2).for_each(|low| *low %= 13);
         }
         let mut output = Vec::new();
         replay::run(&input[..], &mut output).expect("writing to memory");

@@ -360,11 +360,7 @@ fn the_line_in_the_lines() {
         .write(17, 1)
         .step([1024, 0, 0, 0, 0, 0, 0, 1, 0])
         .write(16, 1)
-        .step(forced(3))
-        .power(8511)
-        .read(16)
-        .read(17)
-        .step(forced(0));
+        .step(forced(3));
     let lines = list.lines();
     let lines: Vec<&str> = lines.lines().skip(2).collect();
     assert_eq!(
@@ -380,11 +376,32 @@ fn the_line_in_the_lines() {
             "step 11 0 0 0 0 0 0 0000 0001 0 1",
             "write 0 0",
             "step 11 0 0 0 0 0 0 0000 0003 1 1",
-            "power 0",
-            "read 0 00",
-            "read 0 00",
-            "step 0 0 0 0 0 0 0 0000 0000 0 0",
         ]
+    );
+}
+
+/// Only a power-up that is not refused.
+#[test]
+fn power_up_drops_request_and_mask() {
+    let list = calls()
+        .power(8511)
+        .file(1, &setup_file(&[command(SLCINT)]))
+        .write(17, 1)
+        .step([0, 0, 0, 0, 0, 0, 0, 1, 0])
+        .power(8514)
+        .read(16)
+        .read(17)
+        .power(8511)
+        .read(16)
+        .read(17)
+        .read(8);
+    let text = list.lines();
+    let lines: Vec<&str> = text.lines().skip(3).collect();
+    assert_eq!(
+        lines.join("\n"),
+        "step 0 0 0 0 0 0 0 0000 0001 1 1\n\
+         power 3\nread 0 01\nread 0 01\n\
+         power 0\nread 0 00\nread 0 00\nread 0 00"
     );
 }
 

@@ -2,6 +2,7 @@
 mod answer;
 mod conditions;
 mod groups;
+mod kept;
 mod outputs;
 
 ghost use mathlib.Core.Path.{_≡_};
@@ -17,12 +18,12 @@ use crate::conditions::conditions_of;
 use crate::conditions::fault_conditions;
 use crate::conditions::speed_now;
 use crate::groups::groups_after;
+use crate::kept::kept_after;
 use crate::outputs::outputs_after;
 use rules::Answer;
 use rules::Conditions;
 use rules::GroupPosition;
 use rules::GroupState;
-use rules::Kept;
 use rules::Module;
 use rules::Programming;
 use rules::Sample;
@@ -84,13 +85,9 @@ fn sound_step(m: Module, s: Sample) -> Change
     let w = conditions_of(g, s, x.speed, speed);
     let after = since_after(p, w, speed, x);
     let both = output_words(model_of(g.model), s, after.on);
-    let answer = answer_of(u, false, w, m.state.kept.virtuals, both);
+    let answer = answer_of(u, false, w, m.state.kept.shown.virtuals, both);
     let since = after.since;
-    let machine = w.machine;
-    let kept = Kept {
-        position: machine,
-        virtuals: both.virtuals,
-    };
+    let kept = kept_after(m.state.kept, answer, w.real);
     let state = State {
         since: since,
         kept: kept,
@@ -127,11 +124,12 @@ fn fault_step(m: Module, s: Sample) -> Change
 {
     let g = m.configuration;
     let u = m.configuration.programming.setup;
-    let last = m.state.kept.position;
+    let before = m.state.kept;
+    let last = before.shown.position;
     let timed = m.state.since.timed;
     let w = fault_conditions(g, s, last);
     let forced = output_words(model_of(g.model), s, 0);
-    let answer = answer_of(u, true, w, m.state.kept.virtuals, forced);
+    let answer = answer_of(u, true, w, before.shown.virtuals, forced);
     let at_rest = timed_at_rest(timed);
     let group = GroupState::FRESH;
     let since = SinceStart {
@@ -140,10 +138,7 @@ fn fault_step(m: Module, s: Sample) -> Change
         positions: [GroupPosition(0); 6],
         timed: at_rest,
     };
-    let kept = Kept {
-        position: last,
-        virtuals: forced.virtuals,
-    };
+    let kept = kept_after(before, answer, w.real);
     let state = State {
         since: since,
         kept: kept,

@@ -7,9 +7,9 @@ use Rattle.rules.specs.declared.State.{State}
 use Rattle.rules.specs.declared.Sample.{Sample}
 use Rattle.rules.specs.Cycle.{withFault, withRaw}
 use Rattle.rules.specs.Calls.{sound, stepConfiguration}
-use Rattle.rules.specs.Card.{outputsNow, sinceNow, keptNow, stepState, stepAnswer}
+use Rattle.rules.specs.Card.{outputsNow, sinceNow, stepState, stepAnswer}
 use Rattle.engine.specs.declared.Change.{Change}
-use Rattle.engine.specs.Parts.{ruledOutputs, darkOutputs, soundChange, faultChange}
+use Rattle.engine.specs.Parts.{ruledOutputs, darkOutputs, soundAnswer, soundChange, faultAnswer, faultChange}
 use Rattle.engine.proofs.change_of.Statement.{statement}
 use Rattle.engine.proofs.change_of.Tie as tie
 
@@ -19,11 +19,11 @@ Steps g x s r =
     (r .state ≡ stepState g x s) × (r .answer ≡ stepAnswer g x s) × (withFault (withRaw g (r .raw)) (r .fault) ≡ stepConfiguration g s)
 
 sound-steps : (g : Configuration) (x : State) (s : Sample) → sound g s ≡ true → Steps g x s (soundChange g x s)
-unfolding soundChange ruledOutputs stepState sinceNow keptNow stepAnswer outputsNow stepConfiguration
+unfolding soundChange soundAnswer ruledOutputs stepState sinceNow stepAnswer outputsNow stepConfiguration
 sound-steps g x s e = (rw e, rw e, rw e)
 
 fault-steps : (g : Configuration) (x : State) (s : Sample) → sound g s ≡ false → Steps g x s (faultChange g x s)
-unfolding faultChange darkOutputs stepState sinceNow keptNow stepAnswer outputsNow stepConfiguration
+unfolding faultChange faultAnswer darkOutputs stepState sinceNow stepAnswer outputsNow stepConfiguration
 fault-steps g x s e = (rw e, rw e, rw e)
 
 latched : (c : tie.Then1) → sound (c .before .args .m .configuration) (c .before .args .s) ≡ false

@@ -1,19 +1,19 @@
 -- `engine::sound_step` meets its contract: the calls put together. Assumes nothing.
 use mathlib.Core.Path.{_≡_, refl}
-use Rattle.rules.specs.Motion.{conditions, machineAt}
+use Rattle.rules.specs.Motion.{conditions, realInputs}
 use Rattle.rules.specs.Card.{conditionsNow}
 use Rattle.rules.specs.declared.Configuration.{Configuration}
 use Rattle.rules.specs.declared.SinceStart.{SinceStart}
 use Rattle.rules.specs.declared.Sample.{Sample}
-use Rattle.engine.specs.Parts.{ruledOutputs, soundChange}
+use Rattle.engine.specs.Parts.{ruledOutputs, soundAnswer, soundChange}
 use Rattle.engine.proofs.Words.{words-packed}
 use Rattle.engine.proofs.sound_step.Statement.{statement}
 use Rattle.engine.proofs.sound_step.Tie as tie
 
--- Machine Position among what the step reads
-machine-is : (g : Configuration) (x : SinceStart) (s : Sample) → conditionsNow g x s .machine ≡ machineAt g s
+-- the active real inputs among what the step reads
+real-are : (g : Configuration) (x : SinceStart) (s : Sample) → conditionsNow g x s .real ≡ realInputs g s
 unfolding conditionsNow conditions
-machine-is g x s = refl
+real-are g x s = refl
 
 conditioned : (c : tie.After-conditions-of) →
     (let a = c .before .before .before .before .before .before .args in c .conditions-of .result ≡ conditionsNow (a .m .configuration) (a .m .state .since) (a .s))
@@ -48,19 +48,24 @@ output-words-requires c κs = tt
 answer-of-requires : tie.Need-answer-of-requires
 answer-of-requires c κs = tt
 
+kept-after-requires : tie.Need-kept-after-requires
+kept-after-requires c κs = tt
+
 returns : tie.Need-returns
-unfolding soundChange
+unfolding soundAnswer soundChange
 returns c =
-    let o = c .before .before .before in
+    let n = c .before .before in
+    let o = n .before in
     let k = o .before .before .before in
     let a = k .before .before .before .before .before .before .args in
     rw (
-      c .before .before .answer-of .ensures,
+      c .kept-after .ensures,
+      n .answer-of .ensures,
       both o,
       o .before .before .since-after .ensures .0,
       conditioned k,
       k .before .speed-now .ensures,
-      machine-is (a .m .configuration) (a .m .state .since) (a .s),
+      real-are (a .m .configuration) (a .m .state .since) (a .s),
     )
 
 pub sound-step-spec : {M : Type 1} → statement M
@@ -73,4 +78,5 @@ sound-step-spec =
     model-of-requires
     output-words-requires
     answer-of-requires
+    kept-after-requires
     returns)

@@ -18,6 +18,9 @@ static chimneyrye_module card;
 static files file;
 static chimneyrye_sample sample;
 static chimneyrye_answer answer;
+static chimneyrye_byte byte;
+static uint8_t value;
+static bool level;
 static uint16_t number, outcome;
 static size_t words;
 
@@ -25,15 +28,24 @@ static size_t words;
 __attribute__((noipa)) static uint16_t no_number(chimneyrye_module *m, uint16_t n) { (void)m; (void)n; return 0; }
 __attribute__((noipa)) static uint16_t no_file(chimneyrye_module *m, uint16_t *f, size_t n) { (void)m; (void)f; (void)n; return 0; }
 __attribute__((noipa)) static chimneyrye_answer no_step(chimneyrye_module *m, chimneyrye_sample s) { (void)m; (void)s; return answer; }
+__attribute__((noipa)) static chimneyrye_byte no_read(const chimneyrye_module *m, uint16_t n) { (void)m; (void)n; return byte; }
+__attribute__((noipa)) static uint16_t no_write(chimneyrye_module *m, uint16_t n, uint8_t v) { (void)m; (void)n; (void)v; return 0; }
+__attribute__((noipa)) static bool no_line(const chimneyrye_module *m) { (void)m; return level; }
 
 static uint16_t (*of_number)(chimneyrye_module *, uint16_t);
 static uint16_t (*of_file)(chimneyrye_module *, uint16_t *, size_t);
 static chimneyrye_answer (*of_step)(chimneyrye_module *, chimneyrye_sample);
+static chimneyrye_byte (*of_read)(const chimneyrye_module *, uint16_t);
+static uint16_t (*of_write)(chimneyrye_module *, uint16_t, uint8_t);
+static bool (*of_line)(const chimneyrye_module *);
 static uint16_t *its_file;
 
 static void run_number(void) { outcome = of_number(&card, number); }
 static void run_file(void) { outcome = of_file(&card, its_file, words); }
 static void run_step(void) { answer = of_step(&card, sample); }
+static void run_read(void) { byte = of_read(&card, number); }
+static void run_write(void) { outcome = of_write(&card, number, value); }
+static void run_line(void) { level = of_line(&card); }
 
 /* The lowest word of the area that a run changes. */
 static size_t lowest(void (*run)(void)) {
@@ -85,6 +97,30 @@ static size_t step_bytes(chimneyrye_sample with) {
     return bytes(nothing, lowest(run_step));
 }
 
+static size_t read_bytes(uint16_t offset) {
+    number = offset;
+    of_read = no_read;
+    size_t nothing = lowest(run_read);
+    of_read = chimneyrye_read_byte;
+    return bytes(nothing, lowest(run_read));
+}
+
+static size_t write_bytes(uint16_t offset, uint8_t with) {
+    number = offset;
+    value = with;
+    of_write = no_write;
+    size_t nothing = lowest(run_write);
+    of_write = chimneyrye_write_byte;
+    return bytes(nothing, lowest(run_write));
+}
+
+static size_t line_bytes(void) {
+    of_line = no_line;
+    size_t nothing = lowest(run_line);
+    of_line = chimneyrye_line;
+    return bytes(nothing, lowest(run_line));
+}
+
 static size_t most(size_t a, size_t b) { return a < b ? b : a; }
 
 static void expect(const char *what, unsigned got, unsigned wanted) {
@@ -128,7 +164,7 @@ static void mixed(files *f) {
 
 int main(void) {
     static void (*const programs[3])(files *) = {case_a, case_x, mixed};
-    size_t power = 0, setup = 0, group = 0, limit = 0, nudge = 0, step = 0;
+    size_t power = 0, setup = 0, group = 0, limit = 0, nudge = 0, step = 0, read = 0, write = 0, line = 0;
     for (int i = 0; i < 3; i++) {
         power = most(power, number_bytes(chimneyrye_power_up, 1));
         expect("power-up", outcome, CHIMNEYRYE_UNKNOWN_MODULE);
@@ -155,6 +191,13 @@ int main(void) {
         nudge = most(nudge, nudge_bytes(32768 + 16384, CHIMNEYRYE_ACCEPTED));
         step = most(step, step_bytes((chimneyrye_sample){.raw = 1024}));
         expect("step", answer.refused, 1);
+        for (uint16_t offset = 0; offset <= 18; offset++) {
+            read = most(read, read_bytes(offset));
+            expect("read", byte.number, offset <= 17 ? CHIMNEYRYE_ACCEPTED : CHIMNEYRYE_BYTE_OFFSET);
+            write = most(write, write_bytes(offset, 1));
+            expect("write", outcome, offset < 16 ? CHIMNEYRYE_READ_ONLY_BYTE : offset <= 17 ? CHIMNEYRYE_ACCEPTED : CHIMNEYRYE_BYTE_OFFSET);
+            line = most(line, line_bytes());
+        }
         file.m0[1] = 1;
         setup = most(setup, cycle_bytes("setup", chimneyrye_setup, file.m0, CHIMNEYRYE_M0_WORDS, &file.m0[0], CHIMNEYRYE_SETUP_DATA));
         file.m0[20] |= 1;
@@ -171,5 +214,8 @@ int main(void) {
     printf("chimneyrye_limit %zu\n", limit);
     printf("chimneyrye_nudge %zu\n", nudge);
     printf("chimneyrye_step %zu\n", step);
+    printf("chimneyrye_read_byte %zu\n", read);
+    printf("chimneyrye_write_byte %zu\n", write);
+    printf("chimneyrye_line %zu\n", line);
     return 0;
 }

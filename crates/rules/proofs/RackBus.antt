@@ -9,23 +9,19 @@ use native.Mathlib.Omega.{arith}
 use lib.Dec.{ltb, eqb}
 use borrow.Author.Tests.{ltb-true, ltb-false, eqb-true, eqb-false, lt-ltb, le-ltb, ne-eqb}
 use Rattle.rules.specs.declared.Model.{Model}
-use Rattle.rules.specs.declared.Configuration.{Configuration}
 use Rattle.rules.specs.declared.Bus.{Bus}
 use Rattle.rules.specs.declared.Module.{Module}
-use Rattle.rules.specs.declared.Sample.{Sample}
 use Rattle.rules.specs.declared.Outcome.the-variants.{Accepted}
-use Rattle.rules.specs.declared.Answer.{Answer}
-use Rattle.rules.specs.declared.ByteRead.{ByteRead}
 use Rattle.rules.specs.Words.{bit}
 use Rattle.rules.specs.Variants.{modelKnown, modelOf}
 use Rattle.rules.specs.Motion.{realInputs}
 use Rattle.rules.specs.Cycle.{withIgnored}
-use Rattle.rules.specs.Bus.{shownBy, requested, lineOf, tableByte, tableBytes, requestByte, maskByte, byteAt, byteRead, stored, busWrite}
-use Rattle.rules.specs.Calls.{Access, Read, Write, Call, Step, FileCall, NudgeCall, ByteCall, Reply, Stepped, Cycled, Showed, Written}
+use Rattle.rules.specs.Bus.{shownBy, requested, lineOf, tableBytes, requestByte, maskByte, byteAt, byteRead, stored, busWrite}
+use Rattle.rules.specs.Calls.{Access, Read, Write, Call, Step, FileCall, NudgeCall, ByteCall, Stepped, Showed, Written}
 use Rattle.rules.specs.Card.{freshModule, poweredUp, fileCall, fileLeft, nudgeCall, stepAnswer, keptAfter, stepState, stepCall, withBus, readCall, writeCall, lineLevel}
 use Rattle.rules.specs.Run.{accessed, moduleAfter, run, reply, replies, isAccess, withoutAccesses, otherReplies}
 use Rattle.rules.specs.Quant.{afterEach, noLater}
-use Rattle.rules.specs.History.{configurationOf, expectedAnswer, leftPositions, messageIgnored}
+use Rattle.rules.specs.History.{configurationOf}
 use Rattle.rules.specs.BusHistory.{lastShown, shownConfiguration, byteTold, countedAt, writesAt, writesOneAt, requestTold, maskTold, lineTold, busTold, keptTold, expectedReply, expectedReplies}
 use Rattle.rules.proofs.Past.{both, pair, by, AfterEach, afterEach→, afterEach←, after-step, NoLater, noLater→, noLater←, later-step}
 use Rattle.rules.proofs.Agreement.{configuration-is}

@@ -33,7 +33,6 @@ use Rattle.rules.specs.declared.Event.{Event}
 use Rattle.rules.specs.declared.Configuration.{Configuration}
 use Rattle.rules.specs.declared.Shown.{Shown}
 use Rattle.rules.specs.declared.Bus.{Bus}
-use Rattle.rules.specs.declared.Kept.{Kept}
 use Rattle.rules.specs.Words.{digit, word, bits, wordOf, bytesOf, table, storedAt, otherBit, anyWord, signedWord, differing, forced}
 use Rattle.rules.specs.Variants.{groupMode, realCount, virtualCount, andedOf}
 use Rattle.rules.specs.Counts.{ahead, holds}

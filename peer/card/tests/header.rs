@@ -64,6 +64,9 @@ fn a_loop_in_c_steps_its_module_where_it_sits() {
          step 0 position 100 real 0000\n\
          step 0 position 200 real 0000\n\
          step 11 position 200 real 0000\n\
-         fault 1\n"
+         fault 1\n\
+         read 80 e0 01\n\
+         line 0 write 0 line 1 write 0 line 0\n\
+         read 13 write 14\n"
     );
 }

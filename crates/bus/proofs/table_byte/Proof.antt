@@ -1,8 +1,6 @@
 -- `bus::table_byte` meets its contract: a byte of the table is a half of one of its words. Assumes nothing.
-use Prim.Native.Nat.{_/_}
-use mathlib.Core.Path.{sym, _∙_}
 use borrow.Author.Needs.{needs}
-use Rattle.rules.specs.Bus.{inputTable, tableByte}
+use Rattle.rules.specs.Bus.{tableByte}
 use Rattle.bus.proofs.Laws.{byte-of-words}
 use Rattle.bus.proofs.table_byte.Statement.{statement}
 use Rattle.bus.proofs.table_byte.Tie as tie

@@ -1,6 +1,7 @@
 -- `engine::fault_step` meets its contract: the calls put together. Assumes nothing.
 use mathlib.Core.Path.{_≡_}
 use Rattle.rules.specs.Motion.{faultConditions}
+use Rattle.rules.specs.Switches.{answerOf}
 use Rattle.rules.specs.Card.{moduleStart}
 use Rattle.engine.specs.Parts.{darkOutputs, faultAnswer, faultChange}
 use Rattle.engine.proofs.Words.{words-none}
@@ -34,7 +35,7 @@ kept-after-requires : tie.Need-kept-after-requires
 kept-after-requires c κs = tt
 
 returns : tie.Need-returns
-unfolding faultConditions moduleStart faultAnswer faultChange
+unfolding faultConditions answerOf moduleStart faultAnswer faultChange
 returns c =
     let t = c .before in
     let o = t .before .before in

@@ -39,6 +39,12 @@ enum-told-11 c = search needs
 enum-told-12 : tie.Need-enum-told-12
 enum-told-12 c = search needs
 
+enum-told-13 : tie.Need-enum-told-13
+enum-told-13 c = search needs
+
+enum-told-14 : tie.Need-enum-told-14
+enum-told-14 c = search needs
+
 returns : tie.Need-returns
 returns c = rw (c .enum-told .given .1)
 
@@ -75,6 +81,12 @@ returns-11 c = search needs
 returns-12 : tie.Need-returns-12
 returns-12 c = search needs
 
+returns-13 : tie.Need-returns-13
+returns-13 c = search needs
+
+returns-14 : tie.Need-returns-14
+returns-14 c = search needs
+
 pub error-of-spec : {M : Type 1} → statement M
 error-of-spec =
     tie.close
@@ -91,6 +103,8 @@ error-of-spec =
     enum-told-10
     enum-told-11
     enum-told-12
+    enum-told-13
+    enum-told-14
     returns
     returns-2
     returns-3
@@ -102,4 +116,6 @@ error-of-spec =
     returns-9
     returns-10
     returns-11
-    returns-12)
+    returns-12
+    returns-13
+    returns-14)

@@ -170,9 +170,14 @@ pub fn write_byte(m: Module, offset: u16, value: u8) -> CycleResult
 // ---- The line
 
 // The line is up while a request stands and the mask is set.
+pub fn line_of(b: Bus) -> bool
+    ensures { λ r. ⌜ r ≡ bus.lineOf b ⌝ }
+{
+    b.request & b.mask
+}
+
 pub fn line(m: Module) -> bool
     ensures { λ r. ⌜ r ≡ card.lineLevel m ⌝ }
 {
-    let b = m.state.kept.bus;
-    b.request & b.mask
+    line_of(m.state.kept.bus)
 }

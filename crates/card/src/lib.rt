@@ -8,7 +8,9 @@ use crate::calls::grouped;
 use crate::calls::limited;
 use crate::calls::nudged;
 use crate::calls::powered;
+use crate::calls::read;
 use crate::calls::set_up;
+use crate::calls::written;
 use rules::Answer;
 use rules::Module;
 use rules::Sample;
@@ -16,6 +18,13 @@ ghost use mathlib.Core.Path.{_≡_};
 ghost use Rattle.rules.specs.declared.FileCycle.the-variants.{SetupCycle, GroupCycle, LimitCycle};
 ghost use Rattle.rules.specs.Cycle.{outcomeNumber};
 ghost use Rattle.rules.specs.Card as card;
+
+// What a byte read answers: 0 and the byte, or 13 and 0.
+#[repr(C)]
+pub struct Byte {
+    pub number: u16,
+    pub value: u8,
+}
 
 // Power-up. Returns 0, or 3 for a number that is no module's, and then the module stays as it was.
 #[no_mangle]
@@ -77,4 +86,30 @@ pub extern "C" fn chimneyrye_step(m: &mut Module, s: Sample) -> Answer
     m.configuration.raw = c.raw;
     m.configuration.fault = c.fault;
     c.answer
+}
+
+// A byte of the rack bus read.
+#[no_mangle]
+pub extern "C" fn chimneyrye_read_byte(m: &Module, offset: u16) -> Byte
+    ensures { λ r. ⌜ (r .number ≡ outcomeNumber ((card.readCall (now (m .entry)) offset) .outcome)) × (r .value ≡ (card.readCall (now (m .entry)) offset) .value) ⌝ }
+{
+    read(*m, offset)
+}
+
+// A byte of the rack bus written. Only the request and the mask are stored.
+#[no_mangle]
+pub extern "C" fn chimneyrye_write_byte(m: &mut Module, offset: u16, value: u8) -> u16
+    ensures { λ r. ⌜ (now (m .exit) ≡ (card.writeCall (now (m .entry)) offset value) .card) × (r ≡ outcomeNumber ((card.writeCall (now (m .entry)) offset value) .outcome)) ⌝ }
+{
+    let w = written(m.state.kept.bus, offset, value);
+    m.state.kept.bus = w.bus;
+    w.number
+}
+
+// The line's level.
+#[no_mangle]
+pub extern "C" fn chimneyrye_line(m: &Module) -> bool
+    ensures { λ r. ⌜ r ≡ card.lineLevel (now (m .entry)) ⌝ }
+{
+    bus::line_of(m.state.kept.bus)
 }

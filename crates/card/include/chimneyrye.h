@@ -34,7 +34,7 @@ extern "C" {
 #define CHIMNEYRYE_M0_WORDS 120
 #define CHIMNEYRYE_M1_WORDS 650
 
-/* What power-up and the cycles return: 0, Idle, or the number of the refusal. */
+/* What power-up, the cycles and the byte accesses return: 0, Idle, or the number of the refusal. */
 enum {
     CHIMNEYRYE_ACCEPTED = 0,
     CHIMNEYRYE_M0_LENGTH = 1,
@@ -46,6 +46,8 @@ enum {
     CHIMNEYRYE_LIMIT_DATA = 8,
     CHIMNEYRYE_NUDGE_OUTPUT = 9,
     CHIMNEYRYE_NUDGE_SETPOINT = 10,
+    CHIMNEYRYE_BYTE_OFFSET = 13,
+    CHIMNEYRYE_READ_ONLY_BYTE = 14,
     CHIMNEYRYE_IDLE = 65535
 };
 
@@ -181,10 +183,23 @@ typedef struct {
     chimneyrye_timed_state timed[32];
 } chimneyrye_since_start;
 
-/* What runs on since power-up. */
+/* What the last step showed: words 1 to 5 of the input table, and three bits of its word 0. */
 typedef struct {
     uint16_t position; /* Machine Position of the last step that was not answered 11 */
-    uint16_t virtuals; /* virtual outputs of the last step */
+    uint16_t tach, real, virtuals;
+    uint16_t inputs; /* active real inputs, after the forces */
+    bool overflow;   /* TachOv */
+    bool md1, md2;
+} chimneyrye_shown;
+
+typedef struct {
+    bool request, mask; /* the interrupt request and its mask */
+} chimneyrye_bus;
+
+/* What runs on since power-up. */
+typedef struct {
+    chimneyrye_shown shown;
+    chimneyrye_bus bus;
 } chimneyrye_kept;
 
 typedef struct {
@@ -219,6 +234,12 @@ typedef struct {
     uint16_t changed; /* with SLCINT, how many virtual outputs changed */
 } chimneyrye_answer;
 
+/* A byte of the bus: 0 and its value, or the number of the refusal and 0. */
+typedef struct {
+    uint16_t number;
+    uint8_t value;
+} chimneyrye_byte;
+
 /* Power-up: 0, or 3 for a number that is no module's, and then the module stays as it was. */
 uint16_t chimneyrye_power_up(chimneyrye_module *module, uint16_t number);
 
@@ -230,6 +251,18 @@ uint16_t chimneyrye_nudge(chimneyrye_module *module, uint16_t word);
 
 /* One step of 200 us. */
 chimneyrye_answer chimneyrye_step(chimneyrye_module *module, chimneyrye_sample sample);
+
+/*
+ * The rack bus, bytes 0 to 17 of the module. Bytes 0 to 15 are the input table, words 0 to 7 of figure 5.1 of the manual, low byte first; they
+ * are only read. Byte 16 bit 0 is the interrupt request: a step whose `changed` is not 0 sets it, a 1 written to it drops it. Byte 17 bit 0 is its
+ * mask: 0 after power-up, then the bit written last. Their other bits read 0 and are ignored where they are written.
+ * Refused: an offset over 17 (13), a write below 16 (14). A read changes nothing.
+ */
+chimneyrye_byte chimneyrye_read_byte(const chimneyrye_module *module, uint16_t offset);
+uint16_t chimneyrye_write_byte(chimneyrye_module *module, uint16_t offset, uint8_t value);
+
+/* The interrupt line: up while request and mask are both 1. */
+bool chimneyrye_line(const chimneyrye_module *module);
 
 #ifdef __cplusplus
 }

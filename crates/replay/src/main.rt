@@ -7,7 +7,9 @@ use crate::answer::cycle_line;
 use crate::answer::file_line;
 use crate::answer::put_outcome;
 use crate::answer::put_words;
+use crate::answer::read_line;
 use crate::answer::step_line;
+use crate::answer::write_line;
 use crate::frames::answer;
 use crate::frames::low_bytes;
 use crate::input::Input;
@@ -115,8 +117,8 @@ fn stepped(r: Replay, s: Sample) -> Replay {
     let card = r.card;
     let d = engine::step(card, s);
     let answer = d.answer;
-    show(step_line(answer));
     let after = d.card;
+    show(step_line(answer, bus::line(after)));
     let mut next = r;
     next.card = after;
     next
@@ -132,6 +134,46 @@ fn step_call(r: Replay) -> Replay {
         return none(r);
     }
     stepped(r, sample_of(b))
+}
+
+fn read_call(r: Replay) -> Replay {
+    let read = read_word();
+    let Input::Word(offset) = read else {
+        return bad(r);
+    };
+    if !r.powered {
+        return none(r);
+    }
+    let card = r.card;
+    show(read_line(bus::read_byte(card, offset)));
+    r
+}
+
+// The low byte of a value written, and its line.
+fn written(r: Replay, offset: u16, value: u16) -> Replay {
+    let card = r.card;
+    let p = bus::write_byte(card, offset, (value % 256) as u8);
+    let o = p.outcome;
+    let after = p.card;
+    show(write_line(o, bus::line(after)));
+    let mut next = r;
+    next.card = after;
+    next
+}
+
+fn write_call(r: Replay) -> Replay {
+    let place = read_word();
+    let Input::Word(offset) = place else {
+        return bad(r);
+    };
+    let read = read_word();
+    let Input::Word(value) = read else {
+        return bad(r);
+    };
+    if !r.powered {
+        return none(r);
+    }
+    written(r, offset, value)
 }
 
 // The block reader's line.
@@ -198,6 +240,8 @@ fn call(r: Replay, opcode: u16) -> Replay {
         4 => nudge_call(r),
         5 => step_call(r),
         6 => block_call(r),
+        7 => read_call(r),
+        8 => write_call(r),
         9 => frame_call(r, true),
         10 => frame_call(r, false),
         _ => bad(r),

@@ -6,7 +6,9 @@ mod kept;
 mod outputs;
 
 ghost use mathlib.Core.Path.{_≡_};
+ghost use mathlib.Core.Bool.{not, _&&_};
 ghost use lib.ListN.{replicate};
+ghost use lib.Dec.{leb};
 ghost use Rattle.rules.specs.Words as words;
 ghost use Rattle.rules.specs.Cycle as cycle;
 ghost use Rattle.rules.specs.Calls as calls;
@@ -151,17 +153,21 @@ fn fault_step(m: Module, s: Sample) -> Change
     }
 }
 
-// What a step changes.
+// A step that is not answered 11.
+fn sound(fault: bool, raw: u16) -> bool
+    ensures { λ r. ⌜ r ≡ (leb raw calls.rawMost && not fault) ⌝ }
+{
+    (raw <= Module::RAW_MOST) & !fault
+}
+
+// What a step changes. Each way is called in one place: the compiler then puts both in here, and does not copy the module to call them.
 pub fn change_of(m: Module, s: Sample) -> Change
     ensures { λ r. ⌜ (r .state ≡ card.stepState (m .configuration) (m .state) s) × (r .answer ≡ card.stepAnswer (m .configuration) (m .state) s) × (cycle.withFault (cycle.withRaw (m .configuration) (r .raw)) (r .fault) ≡ calls.stepConfiguration (m .configuration) s) ⌝ }
 {
-    if m.configuration.fault {
-        return fault_step(m, s);
+    if sound(m.configuration.fault, s.raw) {
+        return sound_step(m, s);
     }
-    if Module::RAW_MOST < s.raw {
-        return fault_step(m, s);
-    }
-    sound_step(m, s)
+    fault_step(m, s)
 }
 
 // One step of the card. What is not changed is the same in either case, so that it need not be copied.

@@ -1,7 +1,6 @@
 -- `engine::change_of` meets its contract: a fault or a raw over 1023 is what is not sound. Assumes nothing.
-use mathlib.Core.Bool.{true, false, and-false}
-use mathlib.Core.Path.{_≡_}
-use borrow.Author.Tests.{le-leb, lt-leb}
+use mathlib.Core.Bool.{true, false}
+use mathlib.Core.Path.{_≡_, sym, _∙_}
 use Rattle.rules.specs.declared.Configuration.{Configuration}
 use Rattle.rules.specs.declared.State.{State}
 use Rattle.rules.specs.declared.Sample.{Sample}
@@ -26,43 +25,27 @@ fault-steps : (g : Configuration) (x : State) (s : Sample) → sound g s ≡ fal
 unfolding faultChange faultAnswer darkOutputs stepState sinceNow stepAnswer outputsNow stepConfiguration
 fault-steps g x s e = (rw e, rw e, rw e)
 
-latched : (c : tie.Then1) → sound (c .before .args .m .configuration) (c .before .args .s) ≡ false
-unfolding sound
-latched c = rw (c .if1 .taken) (simp and-false)
-
-over : (c : tie.Then2) → (let a = c .before .before .before .args in sound (a .m .configuration) (a .s) ≡ false)
-unfolding sound
-over c = rw (lt-leb _ _ (c .if2 .taken))
-
-unharmed : (c : tie.Else2) → (let a = c .before .before .before .args in sound (a .m .configuration) (a .s) ≡ true)
-unfolding sound
-unharmed c = rw (le-leb _ _ (c .if2 .left), c .before .before .if1 .left)
-
-fault-step-requires : tie.Need-fault-step-requires
-fault-step-requires c κs = tt
-
-returns : tie.Need-returns
-returns c = rw (c .fault-step .ensures) (fault-steps _ _ _ (latched (c .before)))
-
-fault-step-requires-2 : tie.Need-fault-step-requires-2
-fault-step-requires-2 c κs = tt
-
-returns-2 : tie.Need-returns-2
-returns-2 c = rw (c .fault-step2 .ensures) (fault-steps _ _ _ (over (c .before)))
+sound-requires : tie.Need-sound-requires
+sound-requires c κs = tt
 
 sound-step-requires : tie.Need-sound-step-requires
 sound-step-requires c κs = tt
 
-returns-3 : tie.Need-returns-3
-returns-3 c = rw (c .sound-step .ensures) (sound-steps _ _ _ (unharmed (c .before)))
+returns : tie.Need-returns
+returns c = rw (c .sound-step .ensures) (sound-steps _ _ _ (unfold sound in (sym (c .before .before .sound .ensures) ∙ c .before .if1 .taken)))
+
+fault-step-requires : tie.Need-fault-step-requires
+fault-step-requires c κs = tt
+
+returns-2 : tie.Need-returns-2
+returns-2 c = rw (c .fault-step .ensures) (fault-steps _ _ _ (unfold sound in (sym (c .before .before .sound .ensures) ∙ c .before .if1 .left)))
 
 pub change-of-spec : {M : Type 1} → statement M
 change-of-spec =
     tie.close
     (tie.spec
-    fault-step-requires
-    returns
-    fault-step-requires-2
-    returns-2
+    sound-requires
     sound-step-requires
-    returns-3)
+    returns
+    fault-step-requires
+    returns-2)

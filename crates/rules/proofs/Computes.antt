@@ -100,7 +100,7 @@ unfolding Reader.readerRefusal Reader.readerPart
 reader = tt
 
 past4 : Unit {0}
-unfolding BusHistory.lastShown BusHistory.shownConfiguration BusHistory.byteTold BusHistory.countedAt BusHistory.writesAt BusHistory.writesOneAt BusHistory.requestTold BusHistory.maskTold BusHistory.lineTold BusHistory.busTold BusHistory.keptTold BusHistory.expectedReply BusHistory.expectedReplies
+unfolding BusHistory.lastShown BusHistory.shownConfiguration BusHistory.byteTold BusHistory.countedAt BusHistory.writeAt BusHistory.requestTold BusHistory.maskTold BusHistory.lineTold BusHistory.busTold BusHistory.keptTold BusHistory.expectedReply BusHistory.expectedReplies
 past4 = tt
 
 card1 : Unit {0}

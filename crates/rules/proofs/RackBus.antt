@@ -22,7 +22,7 @@ use Rattle.rules.specs.Card.{freshModule, poweredUp, fileCall, fileLeft,
 use Rattle.rules.specs.Run.{accessed, moduleAfter, run, reply, replies, isAccess, withoutAccesses, otherReplies}
 use Rattle.rules.specs.Quant.{afterEach, noLater}
 use Rattle.rules.specs.History.{configurationOf}
-use Rattle.rules.specs.BusHistory.{lastShown, shownConfiguration, byteTold, countedAt, writesAt, writesOneAt, requestTold, maskTold, lineTold, busTold, keptTold, expectedReply, expectedReplies}
+use Rattle.rules.specs.BusHistory.{lastShown, shownConfiguration, byteTold, countedAt, writeAt, writesAt, writesOneAt, requestTold, maskTold, lineTold, busTold, keptTold, expectedReply, expectedReplies}
 use Rattle.rules.proofs.Past.{both, pair, by, AfterEach, afterEach→, afterEach←, after-step, NoLater, noLater→, noLater←, later-step}
 use Rattle.rules.proofs.Agreement.{configuration-is}
 use Rattle.rules.proofs.Theorem.{history, ignored-is, positions-are, powered-up}
@@ -71,7 +71,7 @@ module _ (b : Bus) (n v : ℕ) where
 
 -- "It is set by a step whose changed-output count isn't 0, and stays until a 1 is written to that bit."
 pub request-is : (model : Model) (l : List Call) → run model l .state .kept .bus .request ≡ requestTold model l
-unfolding run accessed moduleAfter requestTold countedAt writesOneAt freshModule stepCall stepState keptAfter requested fileCall nudgeCall writeCall
+unfolding run accessed moduleAfter requestTold countedAt writeAt freshModule stepCall stepState keptAfter requested fileCall nudgeCall writeCall
 request-is model [] = unfold afterEach in refl
 request-is model (Step s ∷ l) =
     (λ i. request-is model l i || not (eqb (history model l s i .changed) 0))
@@ -87,7 +87,7 @@ request-is model (ByteCall (Write n v) ∷ l) =
 
 -- "Byte 17 bit 0 is its mask, 0 after power-up.": the bit of the last write
 pub mask-is : (model : Model) (l : List Call) → run model l .state .kept .bus .mask ≡ maskTold l
-unfolding run accessed moduleAfter maskTold writesAt writesOneAt freshModule stepCall stepState keptAfter requested fileCall nudgeCall writeCall
+unfolding run accessed moduleAfter maskTold writeAt freshModule stepCall stepState keptAfter requested fileCall nudgeCall writeCall
 mask-is model [] = unfold noLater in refl
 mask-is model (Step s ∷ l) = mask-is model l ∙ sym (later-step (writesOneAt maskByte) (writesAt maskByte) (Step s) l)
 mask-is model (FileCall kind file ∷ l) = mask-is model l ∙ sym (later-step (writesOneAt maskByte) (writesAt maskByte) (FileCall kind file) l)

@@ -47,22 +47,20 @@ countedAt model (FileCall kind file ∷ l) = false
 countedAt model (NudgeCall w ∷ l) = false
 countedAt model (ByteCall a ∷ l) = false
 
--- a write to byte n; a 1 written to bit 0 of byte n
-unfoldable pub writesAt : ℕ → List Call → Bool
-writesAt n [] = false
-writesAt n (Step s ∷ l) = false
-writesAt n (FileCall kind file ∷ l) = false
-writesAt n (NudgeCall w ∷ l) = false
-writesAt n (ByteCall (Read m) ∷ l) = false
-writesAt n (ByteCall (Write m v) ∷ l) = eqb m n
+-- a byte write with P of its offset and value; a write to byte n; a 1 written to bit 0 of byte n
+unfoldable pub writeAt : (ℕ → ℕ → Bool) → List Call → Bool
+writeAt P [] = false
+writeAt P (Step s ∷ l) = false
+writeAt P (FileCall kind file ∷ l) = false
+writeAt P (NudgeCall w ∷ l) = false
+writeAt P (ByteCall (Read n) ∷ l) = false
+writeAt P (ByteCall (Write n v) ∷ l) = P n v
 
-unfoldable pub writesOneAt : ℕ → List Call → Bool
-writesOneAt n [] = false
-writesOneAt n (Step s ∷ l) = false
-writesOneAt n (FileCall kind file ∷ l) = false
-writesOneAt n (NudgeCall w ∷ l) = false
-writesOneAt n (ByteCall (Read m) ∷ l) = false
-writesOneAt n (ByteCall (Write m v) ∷ l) = eqb m n && bit v 0
+abbrev pub writesAt : ℕ → List Call → Bool
+writesAt n = writeAt (λ m v. eqb m n)
+
+abbrev pub writesOneAt : ℕ → List Call → Bool
+writesOneAt n = writeAt (λ m v. eqb m n && bit v 0)
 
 -- "a step with such a count came after the last 1 written to bit 0 of byte 16, or ever where none was written": after each of them
 unfoldable pub requestTold : Model → List Call → Bool

@@ -34,18 +34,18 @@ __attribute__((noipa)) static bool no_line(const chimneyrye_module *m) { (void)m
 
 static uint16_t (*of_number)(chimneyrye_module *, uint16_t);
 static uint16_t (*of_file)(chimneyrye_module *, uint16_t *, size_t);
-static chimneyrye_answer (*of_step)(chimneyrye_module *, chimneyrye_sample);
-static chimneyrye_byte (*of_read)(const chimneyrye_module *, uint16_t);
-static uint16_t (*of_write)(chimneyrye_module *, uint16_t, uint8_t);
-static bool (*of_line)(const chimneyrye_module *);
 static uint16_t *its_file;
 
 static void run_number(void) { outcome = of_number(&card, number); }
 static void run_file(void) { outcome = of_file(&card, its_file, words); }
-static void run_step(void) { answer = of_step(&card, sample); }
-static void run_read(void) { byte = of_read(&card, number); }
-static void run_write(void) { outcome = of_write(&card, number, value); }
-static void run_line(void) { level = of_line(&card); }
+static void run_no_step(void) { answer = no_step(&card, sample); }
+static void run_step(void) { answer = chimneyrye_step(&card, sample); }
+static void run_no_read(void) { byte = no_read(&card, number); }
+static void run_read(void) { byte = chimneyrye_read_byte(&card, number); }
+static void run_no_write(void) { outcome = no_write(&card, number, value); }
+static void run_write(void) { outcome = chimneyrye_write_byte(&card, number, value); }
+static void run_no_line(void) { level = no_line(&card); }
+static void run_line(void) { level = chimneyrye_line(&card); }
 
 /* The lowest word of the area that a run changes. */
 static size_t lowest(void (*run)(void)) {
@@ -72,6 +72,11 @@ static size_t lowest(void (*run)(void)) {
 /* Bytes from the return address on. */
 static size_t bytes(size_t nothing, size_t call) { return 8 * (nothing - call) + 8; }
 
+static size_t deeper(void (*nothing)(void), void (*call)(void)) {
+    size_t above = lowest(nothing);
+    return bytes(above, lowest(call));
+}
+
 static size_t number_bytes(uint16_t (*call)(chimneyrye_module *, uint16_t), uint16_t with) {
     number = with;
     of_number = no_number;
@@ -91,34 +96,18 @@ static size_t file_bytes(uint16_t (*call)(chimneyrye_module *, uint16_t *, size_
 
 static size_t step_bytes(chimneyrye_sample with) {
     sample = with;
-    of_step = no_step;
-    size_t nothing = lowest(run_step);
-    of_step = chimneyrye_step;
-    return bytes(nothing, lowest(run_step));
+    return deeper(run_no_step, run_step);
 }
 
 static size_t read_bytes(uint16_t offset) {
     number = offset;
-    of_read = no_read;
-    size_t nothing = lowest(run_read);
-    of_read = chimneyrye_read_byte;
-    return bytes(nothing, lowest(run_read));
+    return deeper(run_no_read, run_read);
 }
 
 static size_t write_bytes(uint16_t offset, uint8_t with) {
     number = offset;
     value = with;
-    of_write = no_write;
-    size_t nothing = lowest(run_write);
-    of_write = chimneyrye_write_byte;
-    return bytes(nothing, lowest(run_write));
-}
-
-static size_t line_bytes(void) {
-    of_line = no_line;
-    size_t nothing = lowest(run_line);
-    of_line = chimneyrye_line;
-    return bytes(nothing, lowest(run_line));
+    return deeper(run_no_write, run_write);
 }
 
 static size_t most(size_t a, size_t b) { return a < b ? b : a; }
@@ -196,7 +185,7 @@ int main(void) {
             expect("read", byte.number, offset <= 17 ? CHIMNEYRYE_ACCEPTED : CHIMNEYRYE_BYTE_OFFSET);
             write = most(write, write_bytes(offset, 1));
             expect("write", outcome, offset < 16 ? CHIMNEYRYE_READ_ONLY_BYTE : offset <= 17 ? CHIMNEYRYE_ACCEPTED : CHIMNEYRYE_BYTE_OFFSET);
-            line = most(line, line_bytes());
+            line = most(line, deeper(run_no_line, run_line));
         }
         file.m0[1] = 1;
         setup = most(setup, cycle_bytes("setup", chimneyrye_setup, file.m0, CHIMNEYRYE_M0_WORDS, &file.m0[0], CHIMNEYRYE_SETUP_DATA));

@@ -175,13 +175,13 @@ class Openness(unittest.TestCase):
         """Two counts a step, the input active until the machine stands from step 1100 on; updates are the steps 599, 1199 and so on.
 
         The dwells at 0 and 512 come before the first rpm. The stop at 1799 closes, First Cycle opens at 1850, the stop at 2399 closes,
-        and the edge at 2999 is in a stop step.
+        and the edge at 2999 is in the step of a stop and opens.
         """
         samples = []
         for k in range(3100):
             first_cycle = bits(8) if 1850 <= k < 1900 or k >= 2999 else 0
             samples.append(sample(2 * min(k, 1100) % 1024, first_cycle | (bits(1) if k < 1100 else 0)))
-        self.assertEqual(open_steps(group(5, 1, dwell=(0, 100)), samples, RESPONSE_120_MS), [(1024, 1799), (1850, 2399)])
+        self.assertEqual(open_steps(group(5, 1, dwell=(0, 100)), samples, RESPONSE_120_MS), [(1024, 1799), (1850, 2399), (2999, 3100)])
 
     def test_mode_5_forgets_at_a_dwell(self):
         """A First Cycle edge opens only where a qualifying step came since the latest dwell began."""

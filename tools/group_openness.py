@@ -68,12 +68,12 @@ class GroupRun:
         self.open = group.mode == 1 or taken or (self.open and not begins)
 
     def mode_5(self, begins, qualifies, stop, first_edge):
-        """A dwell's beginning closes and forgets, a qualifying step opens, a stop closes; a First Cycle edge opens again."""
+        """A dwell's beginning closes and forgets, a qualifying step opens, a stop closes, then a First Cycle edge opens again."""
         self.qualified = qualifies or (self.qualified and not begins)
         self.open = qualifies or (self.open and not begins)
         if stop:
             self.open = False
-        elif first_edge and self.qualified:
+        if first_edge and self.qualified:
             self.open = True
 
 

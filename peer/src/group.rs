@@ -8,6 +8,7 @@ pub const GROUPS: usize = 6;
 
 pub(crate) const QUANTITY_BITS: u16 = 0x001f;
 pub(crate) const MODE_SHIFT: u16 = 8;
+pub(crate) const MODE_BITS: u16 = 7 << MODE_SHIFT;
 pub(crate) const FIRST_CYCLE_VIRTUAL: u16 = 1 << 13;
 pub(crate) const GROUP_VIRTUAL: u16 = 1 << 14;
 pub(crate) const GROUP_USED: u16 = 1 << 15;
@@ -74,7 +75,7 @@ impl Mode {
 }
 
 fn mode_number(control: u16) -> u16 {
-    (control >> MODE_SHIFT) & 7
+    (control & MODE_BITS) >> MODE_SHIFT
 }
 
 /// The programming of a used group.
@@ -252,6 +253,7 @@ impl GroupState {
         GroupPosition(program.offset)
     }
 
+    /// Beginning, qualifying step, stop, First Cycle edge, in this order.
     fn step_mode_5(&mut self, begins: bool, sample: GroupSample) {
         if begins {
             self.open = false;
@@ -263,7 +265,8 @@ impl GroupState {
         }
         if sample.stop {
             self.open = false;
-        } else if sample.first_cycle && !self.first_cycle && self.qualified {
+        }
+        if sample.first_cycle && !self.first_cycle && self.qualified {
             self.open = true;
         }
     }

@@ -1,4 +1,5 @@
-//! Readings 15 to 29 of the open points (groups), and 92 and 93.
+//! Readings 15 to 29 of the open points (groups), 92 and 93, and R2a to R2f
+//! of the press in a stop step.
 
 mod common;
 
@@ -181,14 +182,7 @@ fn p24_first_cycle_opens_while_standing_until_the_next_stop() {
 }
 
 #[test]
-fn p25_lost_first_cycle_edges() {
-    // In a stop step.
-    let mut gluer = Gluer::qualified();
-    assert!(!gluer.step(150, STOP | FIRST));
-    assert!(!gluer.step(150, TURNING | FIRST));
-    assert!(!gluer.step(150, TURNING));
-    assert!(gluer.step(150, TURNING | FIRST));
-    // Without a qualifying step before.
+fn p25_first_cycle_edge_without_a_qualifying_step_is_lost() {
     let mut gluer = Gluer::new();
     assert!(!gluer.step(120, TURNING | FIRST));
     assert!(gluer.step(130, TURNING | FIRST | INPUT));
@@ -210,6 +204,62 @@ fn p26_order_within_a_step() {
     let mut gluer = Gluer::qualified();
     gluer.step(90, TURNING);
     assert!(!gluer.step(110, STOP | INPUT));
+}
+
+#[test]
+fn r2a_press_in_a_stop_step_without_a_qualifying_step_is_lost() {
+    let mut gluer = Gluer::new();
+    assert!(!gluer.step(120, TURNING));
+    assert!(!gluer.step(150, STOP | FIRST));
+    assert!(!gluer.step(150, FIRST));
+    // Not kept: the qualifying step opens, and the next stop closes.
+    assert!(gluer.step(150, TURNING | INPUT | FIRST));
+    assert!(!gluer.step(150, STOP | FIRST));
+}
+
+#[test]
+fn r2b_press_in_a_stop_step_in_which_a_dwell_begins() {
+    let mut gluer = Gluer::qualified();
+    assert!(gluer.step(90, TURNING));
+    assert!(!gluer.step(110, STOP | FIRST | INPUT));
+    assert!(!gluer.step(110, FIRST | INPUT));
+    assert!(!gluer.step(110, INPUT));
+    assert!(!gluer.step(110, FIRST | INPUT));
+}
+
+#[test]
+fn r2c_press_in_a_stop_step_opens_until_the_next_stop() {
+    let mut gluer = Gluer::qualified();
+    assert!(gluer.step(150, STOP | FIRST));
+    assert!(gluer.step(150, FIRST));
+    assert!(gluer.step(150, 0));
+    assert!(!gluer.step(150, STOP));
+    // Again in a stop step, out of the dwell; then the machine turns.
+    assert!(!gluer.step(250, 0));
+    assert!(gluer.step(250, STOP | FIRST));
+    assert!(gluer.step(260, TURNING));
+    assert!(!gluer.step(100, TURNING));
+}
+
+#[test]
+fn r2d_press_held_from_before_is_no_edge_in_the_stop_step() {
+    let mut gluer = Gluer::qualified();
+    assert!(gluer.step(150, TURNING | FIRST));
+    assert!(!gluer.step(150, STOP | FIRST));
+    assert!(!gluer.step(150, FIRST));
+    assert!(!gluer.step(150, 0));
+    assert!(gluer.step(150, STOP | FIRST));
+}
+
+#[test]
+fn r2f_beginning_then_qualifying_then_stop_then_edge() {
+    // A beginning that qualifies: open, and the edge changes nothing.
+    let mut gluer = Gluer::new();
+    assert!(gluer.step(110, TURNING | INPUT | FIRST));
+    // The stop closes what qualified before, and the edge opens it.
+    assert!(!gluer.step(110, STOP | FIRST));
+    assert!(!gluer.step(110, STOP));
+    assert!(gluer.step(110, STOP | FIRST));
 }
 
 #[test]
@@ -235,8 +285,8 @@ fn mode_5_needs_dwell_and_input() {
 
 /// An 8513 with real group 1 in Mode 5, dwell 0/1000, output 1 always
 /// holding, turning at one count a step when step 600 has qualified it, then
-/// stopped at step 1200.
-fn stopped_gluer(first_cycle_type: u16) -> Card {
+/// standing; step 1200, the next one, is a stop.
+fn standing_gluer(first_cycle_type: u16) -> Card {
     let control = real_group(5, 1) | first_cycle_type;
     let mut card = Card::set_up(&[command(TRESP), (11, 0xffff)])
         .and_groups(&[[control, 0, 1000, 0]])
@@ -245,10 +295,16 @@ fn stopped_gluer(first_cycle_type: u16) -> Card {
         let lit = card.module.step(&sample(raw, 1, 0)).real_outputs;
         assert_eq!(lit, u16::from(raw == 599));
     }
-    for step in 0..600 {
-        let lit = card.module.step(&sample(599, 0, 0)).real_outputs;
-        assert_eq!(lit, u16::from(step < 599));
+    for _ in 0..599 {
+        assert_eq!(card.module.step(&sample(599, 0, 0)).real_outputs, 1);
     }
+    card
+}
+
+/// The same after the stop.
+fn stopped_gluer(first_cycle_type: u16) -> Card {
+    let mut card = standing_gluer(first_cycle_type);
+    assert_eq!(card.module.step(&sample(599, 0, 0)).real_outputs, 0);
     card
 }
 
@@ -272,6 +328,21 @@ fn p24_in_the_module() {
     }
     // The 600th step after the stop is again a stop.
     assert_eq!(card.module.step(&sample(599, 0, 0x80)).real_outputs, 0);
+}
+
+#[test]
+fn r2c_in_the_module() {
+    let mut card = standing_gluer(0x2000);
+    for _ in 0..600 {
+        assert_eq!(card.module.step(&sample(599, 0, 0x80)).real_outputs, 1);
+    }
+    // Held in the next stop.
+    assert_eq!(card.module.step(&sample(599, 0, 0x80)).real_outputs, 0);
+    // A press of the other type in the stop step is none.
+    let mut card = standing_gluer(0);
+    assert_eq!(card.module.step(&sample(599, 0, 0x80)).real_outputs, 0);
+    let mut card = standing_gluer(0);
+    assert_eq!(card.module.step(&sample(599, 0x80, 0)).real_outputs, 1);
 }
 
 #[test]

@@ -37,4 +37,4 @@ openedAfter mode x e t =
     openedIn mode
     (t .taken || (not (t .begins) && x .opened))
     ((t .holds && t .edge) || (not (t .begins) && x .opened))
-    (not (stops e) && (t .qualifying || (edge (x .first) (e .first) && t .qualified) || (not (t .begins) && x .opened)))
+    ((edge (x .first) (e .first) && t .qualified) || (not (stops e) && (t .qualifying || (not (t .begins) && x .opened))))

@@ -152,11 +152,11 @@ fn since_dwell(sets: bool, begins: bool, before: bool) -> bool
     sets | (!begins & before)
 }
 
-// Mode 5: a stop closes, and an edge of the First Cycle Input in its step does not count.
-fn stop_first_cycle(stop: bool, qualifying: bool, edge: bool, kept: bool) -> bool
-    ensures { λ r. ⌜ r ≡ (not stop && (qualifying || edge || kept)) ⌝ }
+// Mode 5: a stop closes, then an edge of the First Cycle Input that counts opens.
+fn stop_then_edge(opened: bool, stop: bool, counted: bool) -> bool
+    ensures { λ r. ⌜ r ≡ (counted || (not stop && opened)) ⌝ }
 {
-    !stop & (qualifying | edge | kept)
+    counted | (!stop & opened)
 }
 
 // Openness of Modes 2, 4 and 5; the others keep none.
@@ -195,8 +195,9 @@ fn opened_after(mode: Mode, x: GroupState, e: Event, t: Turn) -> bool
 {
     let two = since_dwell(t.taken, t.begins, x.opened);
     let four = since_dwell(t.holds & t.edge, t.begins, x.opened);
-    let first = edge(x.first, e.first) & t.qualified;
-    let five = stop_first_cycle(stops(e), t.qualifying, first, !t.begins & x.opened);
+    let stop = stops(e);
+    let counted = edge(x.first, e.first) & t.qualified;
+    let five = stop_then_edge(since_dwell(t.qualifying, t.begins, x.opened), stop, counted);
     opened_in(mode, two, four, five)
 }
 

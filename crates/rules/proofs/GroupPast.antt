@@ -75,23 +75,16 @@ settle false h n x l e = refl
 
 -- Mode 5: a this step qualifies, b a dwell begins, z it is a stop, f an edge of First Cycle, l the latest dwell saw a qualifying step, n no stop came since
 mode5-step : (a b z f l n : Bool) → (a ≡ true → z ≡ false)
-    → (not z && (a || (f && (a || (not b && l))) || (not b && (l && n))))
-    ≡ ((a || (not b && l)) && ((a || (f && not z && (a || (not b && l)))) || (not z && n)))
-mode5-step true b z f l n e = rw (e refl)
-mode5-step false true true f l n e = refl
-mode5-step false true false true l n e = refl
-mode5-step false true false false l n e = refl
-mode5-step false false true true true n e = refl
-mode5-step false false true true false n e = refl
-mode5-step false false true false true n e = refl
-mode5-step false false true false false n e = refl
-mode5-step false false false true true n e = refl
-mode5-step false false false true false n e = refl
-mode5-step false false false false true n e = refl
-mode5-step false false false false false n e = refl
+    → ((f && (a || (not b && l))) || (not z && (a || (not b && (l && n)))))
+    ≡ ((a || (not b && l)) && ((a || (f && (a || (not b && l)))) || (not z && n)))
+mode5-step true b z true l n e = refl
+mode5-step true b z false l n e = rw (e refl)
+mode5-step false true z f l n e = simp and-false
+mode5-step false false z f true n e = refl
+mode5-step false false z f false n e = simp and-false
 
 -- a stop never qualifies
-no-stop : (h : Bool) (e : Event) → (h && running e) ≡ true → stops e ≡ false
+pub no-stop : (h : Bool) (e : Event) → (h && running e) ≡ true → stops e ≡ false
 unfolding running stops isStop
 no-stop h e t =
     let r : eqb (e .rpm) 0 ≡ false =

@@ -1,9 +1,9 @@
 -- How the history reads: for each quantifier the proposition that its test says, and 01's sentences on groups and timed switches as such propositions.
 -- `Moment j h`: j is the past h as it stood at one of its steps; of two moments the longer is the later. Assumes nothing.
-use Prim.Native.Nat.{ℕ, _+_, _%_, _<_}
+use Prim.Native.Nat.{ℕ, _+_, _%_, _≤_, _<_}
 use mathlib.Core.Path.{_≡_, refl, subst, _∙_}
 use mathlib.Core.Logic.{_↔_}
-use mathlib.Core.Bool.{Bool, true, false, cond, not, _&&_, _||_}
+use mathlib.Core.Bool.{Bool, true, false, cond, not, _&&_, _||_, and-false, false≢true}
 use mathlib.Core.List.{List, [], _∷_}
 use mathlib.Core.Option.{none, some, Option·some-injective, Option·none-ne-some, Option·some-ne-none}
 use native.Mathlib.Omega.{arith}
@@ -12,13 +12,14 @@ use Rattle.rules.specs.declared.Mode.the-variants.{Mode2, Mode3, Mode4, 
 use Rattle.rules.specs.declared.Switch.the-variants.{Timed}
 use Rattle.rules.specs.Variants.{groupMode}
 use Rattle.rules.specs.Counts.{ahead}
-use Rattle.rules.specs.Groups.{presets, dwellHolds, groupPosition}
+use Rattle.rules.specs.Groups.{presets, dwellHolds, groupPosition, running}
 use Rattle.rules.specs.Switches.{timedSteps}
 use Rattle.rules.specs.Quant.{exists, every, afterEach, noLater, latestSaw, heldUnder}
-use Rattle.rules.specs.History.{GroupStep, PastStep, beginsAt, takesAt, levelAt, edgeAt, stopAt, lastTaken, presetPosition, positionFrom, positionAt, dwellAt, begins, takes, pastOf, latestDwellSaw, qualifiesAt, countsAt, openAt, heldAt, lasts}
-use Rattle.rules.proofs.Past.{both, pair, by, clash, Moment, now, back, none-of, number, all-of, exists→, exists←, every→, every←, AfterEach, afterEach→, afterEach←, NoLater, noLater→, noLater←}
+use Rattle.rules.specs.History.{GroupStep, PastStep, beginsAt, takesAt, levelAt, edgeAt, firstEdgeAt, stopAt, runningAt, lastTaken, presetPosition, positionFrom, positionAt, dwellAt, begins, takes, pastOf, latestDwellSaw, qualifiesAt, countsAt, openAt, heldAt, lasts}
+use Rattle.rules.proofs.Past.{both, pair, by, clash, Moment, now, back, none-of, number, all-of, exists→, exists←, every→, every←, AfterEach, afterEach→, afterEach←, NoLater, noLater→, noLater←, later-step}
 use Rattle.rules.proofs.Stretch.{LatestSaw, latestSaw→, latestSaw←}
 use Rattle.rules.proofs.Timed.{HeldUnder, heldUnder→, heldUnder←}
+use Rattle.rules.proofs.GroupPast.{no-stop}
 
 -- ---- The quantifiers
 
@@ -70,6 +71,51 @@ mode5-reads h = (
   λ t. let b = both _ _ t in (latestSaw→ beginsAt dwellAt qualifiesAt h (b .0), noLater→ (λ j. qualifiesAt j || countsAt j) stopAt h (b .1)),
   λ e. pair (latestSaw← beginsAt dwellAt qualifiesAt h (e .0)) (noLater← (λ j. qualifiesAt j || countsAt j) stopAt h (e .1)),
 )
+
+-- Mode 5 in a step with a First Cycle edge, a stop in it or not: open exactly where the latest dwell saw a qualifying step
+absorbed : (l q r : Bool) → (l && ((q || l) || r)) ≡ l
+absorbed true true r = refl
+absorbed true false r = refl
+absorbed false q r = refl
+
+pressed : (h : List PastStep) → firstEdgeAt h ≡ true → openAt Mode5 h ≡ latestDwellSaw qualifiesAt h
+unfolding openAt countsAt
+pressed [] f = clash f (unfold firstEdgeAt in refl)
+pressed (s ∷ h) f =
+    rw (later-step (λ j. qualifiesAt j || countsAt j) stopAt s h, f)
+    (absorbed (latestDwellSaw qualifiesAt (s ∷ h)) (qualifiesAt (s ∷ h)) (not (stopAt (s ∷ h)) && noLater (λ j. qualifiesAt j || countsAt j) stopAt h))
+
+pub mode5-pressed : (h : List PastStep) → firstEdgeAt h ≡ true → (openAt Mode5 h ≡ true) ↔ LatestSaw beginsAt dwellAt qualifiesAt h
+unfolding latestDwellSaw
+mode5-pressed h f = rw (pressed h f) (latestSaw-reads beginsAt dwellAt h qualifiesAt)
+
+-- a stop's step is no qualifying one
+stop-plain : (h : List PastStep) → stopAt h ≡ true → qualifiesAt h ≡ false
+unfolding stopAt qualifiesAt runningAt
+stop-plain [] z = absurd (false≢true z)
+stop-plain (s ∷ h) z = by (dwellAt (s ∷ h) && running (s .event)) (λ t. clash z (no-stop (dwellAt (s ∷ h)) (s .event) t)) (λ q. q)
+
+-- in the step of a stop without a First Cycle edge: closed
+pub mode5-stopped : (h : List PastStep) → stopAt h ≡ true → firstEdgeAt h ≡ false → openAt Mode5 h ≡ false
+unfolding openAt countsAt
+mode5-stopped [] z f = clash z (unfold stopAt in refl)
+mode5-stopped (s ∷ h) z f =
+    rw (later-step (λ j. qualifiesAt j || countsAt j) stopAt s h, f, z, stop-plain (s ∷ h) z) (and-false (latestDwellSaw qualifiesAt (s ∷ h)))
+
+-- in the step of a stop in which a dwell begins: closed, with a First Cycle edge or without
+pub mode5-begun : (h : List PastStep) → stopAt h ≡ true → beginsAt h ≡ true → openAt Mode5 h ≡ false
+mode5-begun [] z b = clash z (unfold stopAt in refl)
+mode5-begun (s ∷ h) z b =
+    by (openAt Mode5 (s ∷ h))
+    (λ t. let e = mode5-reads (s ∷ h) .0 t .0 in clash (seen (e .1) (e .2 .1) (e .4) (e .5 .0) (e .5 .2)) (stop-plain (s ∷ h) z))
+    (λ q. q)
+  where
+    -- what a dwell saw that begins in the last step, it saw in that step
+    seen : {c j : List PastStep} → Moment c (s ∷ h) → ((k : List PastStep) → Moment k (s ∷ h) → length c < length k → beginsAt k ≡ false)
+        → Moment j (s ∷ h) → length c ≤ length j → qualifiesAt j ≡ true → qualifiesAt (s ∷ h) ≡ true
+    seen c l now i q = q
+    seen now l (back r) i q = let n = number r in absurd (omega arith)
+    seen (back c) l (back r) i q = let n = number c in clash b (l (s ∷ h) now (omega arith))
 
 -- a dwell begins: it holds before any edge of the step is taken, and did not at the end of the previous step
 pub begins-reads : (s : GroupStep) (h : List GroupStep)

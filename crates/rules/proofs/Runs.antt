@@ -165,26 +165,61 @@ card-runs x = same-answers x cardRuns all-known ∙ runs-are
 -- ---- A Mode 5 group, whose speed would take a card hundreds of steps
 
 -- openness at each step, in the order of time
-openings : Mode → List GroupStep → List GroupStep → List Bool
+pub openings : Mode → List GroupStep → List GroupStep → List Bool
 openings mode past [] = []
 openings mode past (s ∷ steps) = openAt mode (pastOf (s ∷ past)) ∷ openings mode (s ∷ past) steps
 
 -- a step of a group with the dwell 0/50: position, input, First Cycle Input, rpm, whether it was updated
-step : ℕ → Bool → Bool → ℕ → Bool → GroupStep
+pub step : ℕ → Bool → Bool → ℕ → Bool → GroupStep
 step p level first rpm update = record {
   sf = 1024;
   program = record { used = true; isvirtual = true; firstvirtual = true; mode = 5; quantity = 1; dwell = record { on = 0; off = 50 }; offset = 0 };
   event = record { machine = record { 0 = p }; level = level; first = first; rpm = rpm; update = update };
 }
 
--- A qualifying step at 20 opens. A stop at 30 closes in the dwell, and a First Cycle edge in the stop step is lost. Input active at 40 with rpm 0 does not open
--- again. A First Cycle edge at 60, out of the dwell, opens. The next dwell's beginning at 5 closes and forgets, so that an edge there does not count.
-mode5-run : openings Mode5 []
-    (step 1000 true false 9 false ∷ step 20 true false 9 false ∷ step 30 true true 0 true ∷ step 40 true false 0 false ∷ step 60 true true 0 false
-    ∷ step 1000 true false 0 false ∷ step 5 true true 0 false ∷ [])
-    ≡ false ∷ true ∷ false ∷ false ∷ true ∷ true ∷ false ∷ []
-unfolding history openings step
-mode5-run = refl
+-- steps from a start, and at which of them the group is open
+pub record Mode5Run : Type 0 where
+  pub steps : List GroupStep
+  pub says : List Bool
+
+pub mode5Runs : List Mode5Run
+mode5Runs =
+    -- A qualifying step at 20 opens. A stop at 30 closes in the dwell. Input active at 40 with rpm 0 does not open again. A First Cycle edge at 60, out of the
+    -- dwell, opens. The next dwell's beginning at 5 closes and forgets, so that an edge there does not count.
+    record {
+      steps = step 1000 true false 9 false ∷ step 20 true false 9 false ∷ step 30 true false 0 true ∷ step 40 true false 0 false ∷ step 60 true true 0 false
+          ∷ step 1000 true false 0 false ∷ step 5 true true 0 false ∷ [];
+      says = false ∷ true ∷ false ∷ false ∷ true ∷ true ∷ false ∷ [];
+    }
+    -- An edge in the step of a stop, after a qualifying step: open, and at rpm 0 until the next update. That is again a stop, and closes, since the press is
+    -- held. One more press, in the stop after it, opens; an update with another rpm does not close.
+    ∷ record {
+      steps = step 20 true false 9 false ∷ step 30 true true 0 true ∷ step 30 true true 0 false ∷ step 30 true true 0 true ∷ step 30 true false 0 false
+          ∷ step 30 true true 0 true ∷ step 30 true true 0 false ∷ step 31 false true 9 true ∷ [];
+      says = true ∷ true ∷ true ∷ false ∷ false ∷ true ∷ true ∷ true ∷ [];
+    }
+    -- No qualifying step since the dwell began: the edge is lost, not kept. The qualifying step at 40 opens by itself, and the held press is no edge in the stop after it.
+    ∷ record {
+      steps = step 20 false false 9 false ∷ step 30 true true 0 true ∷ step 30 true true 0 false ∷ step 40 true true 9 true ∷ step 40 true true 0 true ∷ [];
+      says = false ∷ false ∷ false ∷ true ∷ false ∷ [];
+    }
+    -- Stop, edge and a dwell's beginning in one step: the beginning forgets the qualifying step of the dwell before, so the group stays closed, also by an edge after it.
+    ∷ record {
+      steps = step 20 true false 9 false ∷ step 60 true false 9 false ∷ step 1000 true false 9 false ∷ step 5 true true 0 true ∷ step 5 true false 0 false
+          ∷ step 5 true true 0 false ∷ [];
+      says = true ∷ true ∷ true ∷ false ∷ false ∷ false ∷ [];
+    }
+    -- A press that began a step before the stop and is held: no edge in it, so the stop closes.
+    ∷ record {
+      steps = step 20 true false 9 false ∷ step 30 true true 9 false ∷ step 30 true true 0 true ∷ step 30 true true 0 false ∷ [];
+      says = true ∷ true ∷ false ∷ false ∷ [];
+    }
+    ∷ []
+
+-- each run, computed
+pub mode5-runs : map (λ (r : Mode5Run). openings Mode5 [] (r .steps)) mode5Runs ≡ map (λ (r : Mode5Run). r .says) mode5Runs
+unfolding history openings step mode5Runs
+mode5-runs = refl
 
 -- ---- Speed: q from 0 up by one at each step
 
@@ -216,11 +251,14 @@ pub advanced-run :
 unfolding machine m0 m1 moving
 advanced-run = (refl, refl)
 
--- Mode 5, dwell 0/1000, input 17 active: a step in the dwell qualifies when rpm is not 0, with TResp 1 from the 600th step on; after 600 steps without movement
--- a stop closes; then an edge of the First Cycle Input, 24, opens again
+-- Mode 5, two groups with dwell 0/1000, inputs 17 and 18 active: a step in the dwell qualifies when rpm is not 0, with TResp 1 from the 600th step on; after 600
+-- steps without movement comes a stop. In its step group 1 has an edge of its First Cycle Input, 24, and is open; group 2 is closed, and an edge of its own, 8,
+-- opens it in the next step
 pub mode5-card :
     lastShown 598
-    (with (m0 0x8021 (0xE501 ∷ 0 ∷ 1000 ∷ 0 ∷ [])) whole (moving 600 0 1 ++ replicate 600 (at 599 1) ++ (at 599 0x81 ∷ [])))
-    ≡ dark ∷ lit ∷ replicate 599 lit ++ (dark ∷ lit ∷ [])
+    (with (m0 0x8021 (0xE501 ∷ 0 ∷ 1000 ∷ 0 ∷ 0xC501 ∷ 0 ∷ 1000 ∷ 0 ∷ []))
+    (m1 ((17, 0 ∷ 0 ∷ 0 ∷ 0 ∷ 1023 ∷ []) ∷ (18, 0 ∷ 0 ∷ 0 ∷ 0 ∷ 1023 ∷ []) ∷ []))
+    (moving 600 0 3 ++ replicate 599 (at 599 3) ++ (at 599 0x83 ∷ stepped 599 0x80 0x83 ∷ [])))
+    ≡ dark ∷ replicate 600 (0, 0, 3) ++ (lit ∷ (0, 0, 3) ∷ [])
 unfolding machine m0 m1 moving
 mode5-card = refl

@@ -37,7 +37,7 @@ use Rattle.rules.specs.Calls.{Call, Step, FileCall, NudgeCall, ByteCall,
 use Rattle.rules.specs.Card.{conditionsNow, openNow, groupStateAt, fileLeft, stepCall}
 use Rattle.rules.specs.Run.{moduleAfter, run, outputBit}
 use Rattle.rules.specs.Quant.{noLater}
-use Rattle.rules.specs.History.{configurationOf, programmingOf, setupInForce, isModuleStart, conditionsIn, PastStep, beginsAt, takesAt, edgeAt, stopAt, positionAt, dwellAt, pastOf, qualifiesAt, countsAt, openAt, groupStepIn, sinceGroupStart, groupPast, positionIn, openIn, positionsIn, opennessIn, lastRaw, leftPositions, acted, ignoredAfter, messageIgnored}
+use Rattle.rules.specs.History.{configurationOf, programmingOf, setupInForce, isModuleStart, conditionsIn, PastStep, beginsAt, takesAt, edgeAt, firstEdgeAt, stopAt, positionAt, dwellAt, pastOf, qualifiesAt, countsAt, openAt, groupStepIn, sinceGroupStart, groupPast, positionIn, openIn, positionsIn, opennessIn, lastRaw, leftPositions, acted, ignoredAfter, messageIgnored}
 use Rattle.rules.proofs.Laws.{stored-outside}
 use Rattle.rules.proofs.Brought.{preset-shows}
 use Rattle.rules.proofs.Packing.{getD-table-0, length-table}
@@ -48,7 +48,7 @@ use Rattle.rules.proofs.Programs.{with-setup}
 use Rattle.rules.proofs.Agreement.{configuration-is, agrees, open-in}
 use Rattle.rules.proofs.Theorem.{conditions-in, raw-is, ignored-is, positions-are, each-output}
 use Rattle.rules.proofs.Ranges.{SetupWithin, stored-less-1, ranges}
-use Rattle.rules.proofs.Reading.{noLater-reads, mode2-reads, mode3-reads, mode4-reads, mode5-reads, LastTaken, lastTaken-told, noneTaken-told, preset-reads, machine-reads, offset-reads}
+use Rattle.rules.proofs.Reading.{noLater-reads, mode2-reads, mode3-reads, mode4-reads, mode5-reads, mode5-pressed, mode5-stopped, mode5-begun, LastTaken, lastTaken-told, noneTaken-told, preset-reads, machine-reads, offset-reads}
 
 -- ---- What the card has of group n, from 0, in a step with the sample s after the calls l
 
@@ -117,6 +117,21 @@ module _ (model : Model) (l : List Call) (s : Sample) (n : ℕ) (b : n < 6) wher
       → (cardOpen model l s n ≡ true)
       ↔ (LatestSaw beginsAt dwellAt qualifiesAt (groupPast model l s n) × NoLater (λ j. qualifiesAt j || countsAt j) stopAt (groupPast model l s n))
   mode-5-open e = read-by _ Mode5 e (mode5-reads (groupPast model l s n))
+
+  -- 02: "in a step that holds both a stop and a First Cycle edge, the stop is taken first and the edge then counts if a qualifying step came since the dwell
+  -- began": with such an edge, in a stop's step or another, the group is open exactly when the latest dwell saw a qualifying step
+  pub mode-5-pressed : modeIn model l n ≡ Mode5 → firstEdgeAt (groupPast model l s n) ≡ true
+      → (cardOpen model l s n ≡ true) ↔ LatestSaw beginsAt dwellAt qualifiesAt (groupPast model l s n)
+  mode-5-pressed e f = read-by _ Mode5 e (mode5-pressed (groupPast model l s n) f)
+
+  -- "A stop closes.": without an edge in its own step, as where First Cycle is held from before, and with one where a dwell begins in that step
+  pub mode-5-stopped : modeIn model l n ≡ Mode5 → stopAt (groupPast model l s n) ≡ true → firstEdgeAt (groupPast model l s n) ≡ false
+      → cardOpen model l s n ≡ false
+  mode-5-stopped e z f = in-mode Mode5 e ∙ mode5-stopped (groupPast model l s n) z f
+
+  pub mode-5-begun : modeIn model l n ≡ Mode5 → stopAt (groupPast model l s n) ≡ true → beginsAt (groupPast model l s n) ≡ true
+      → cardOpen model l s n ≡ false
+  mode-5-begun e z f = in-mode Mode5 e ∙ mode5-begun (groupPast model l s n) z f
 
   -- ---- Positions
 

@@ -123,7 +123,9 @@ unfoldable pub qualifiedNow : ℕ → Group → GroupState → Event → Bool
 qualifiedNow sf g x e = (heldNow sf g x e && running e) || (not (beginsNow sf g x e) && x .qualified)
 
 -- Mode 2: "opened by a taken edge, closed by a dwell's beginning, closing first". Mode 4: "a dwell's beginning closes; an edge in the dwell opens, same step included".
--- Mode 5: a beginning closes, a qualifying step opens, "A stop closes. An edge of the First Cycle Input that isn't in a stop step opens if a qualifying step came since the dwell began".
+-- Mode 5: "a dwell's beginning closes and forgets. A qualifying step (in the dwell, input active, rpm not 0) opens. A stop closes. An edge of the First Cycle Input .. opens
+-- if a qualifying step came since the dwell began"; 02: "in a step that holds both a stop and a First Cycle edge, the stop is taken first and the edge then counts if a
+-- qualifying step came since the dwell began".
 unfoldable pub openedNow : Mode → ℕ → Group → GroupState → Event → Bool
 openedNow NoMode sf g x e = false
 openedNow Mode0 sf g x e = false
@@ -132,10 +134,8 @@ openedNow Mode2 sf g x e = takesNow sf g x e || (not (beginsNow sf g x e) && x .
 openedNow Mode3 sf g x e = false
 openedNow Mode4 sf g x e = (heldNow sf g x e && edge (x .level) (e .level)) || (not (beginsNow sf g x e) && x .opened)
 openedNow Mode5 sf g x e =
-    not (stops e)
-    && ((heldNow sf g x e && running e)
-    || (edge (x .first) (e .first) && qualifiedNow sf g x e)
-    || (not (beginsNow sf g x e) && x .opened))
+    (edge (x .first) (e .first) && qualifiedNow sf g x e)
+    || (not (stops e) && ((heldNow sf g x e && running e) || (not (beginsNow sf g x e) && x .opened)))
 
 unfoldable pub groupAfter : ℕ → Group → GroupState → Event → GroupState
 groupAfter sf g x e = record {

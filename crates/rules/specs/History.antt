@@ -249,9 +249,10 @@ latestDwellSaw X h = latestSaw beginsAt dwellAt X h
 unfoldable pub qualifiesAt : List PastStep → Bool
 qualifiesAt h = dwellAt h && runningAt h
 
--- "An edge of the First Cycle Input that isn't in a stop step .. if a qualifying step came since the dwell began; only such an edge counts."
+-- "An edge of the First Cycle Input .. if a qualifying step came since the dwell began; only such an edge counts." 02: "in a step that holds both a stop and a First Cycle
+-- edge, the stop is taken first and the edge then counts if a qualifying step came since the dwell began", and "an edge in the stop step comes after that stop".
 unfoldable pub countsAt : List PastStep → Bool
-countsAt h = firstEdgeAt h && not (stopAt h) && latestDwellSaw qualifiesAt h
+countsAt h = firstEdgeAt h && latestDwellSaw qualifiesAt h
 
 -- Modes 0, 1: always open. Mode 3: its input is active.
 -- Mode 2: an edge was taken, and no dwell began in a later step.

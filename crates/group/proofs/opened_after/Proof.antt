@@ -9,14 +9,17 @@ since-dwell-requires c κs = tt
 since-dwell-requires-2 : tie.Need-since-dwell-requires-2
 since-dwell-requires-2 c κs = tt
 
-edge-requires : tie.Need-edge-requires
-edge-requires c κs = tt
-
 stops-requires : tie.Need-stops-requires
 stops-requires c κs = tt
 
-stop-first-cycle-requires : tie.Need-stop-first-cycle-requires
-stop-first-cycle-requires c κs = tt
+edge-requires : tie.Need-edge-requires
+edge-requires c κs = tt
+
+since-dwell-requires-3 : tie.Need-since-dwell-requires-3
+since-dwell-requires-3 c κs = tt
+
+stop-then-edge-requires : tie.Need-stop-then-edge-requires
+stop-then-edge-requires c κs = tt
 
 opened-in-requires : tie.Need-opened-in-requires
 opened-in-requires c κs = tt
@@ -24,14 +27,16 @@ opened-in-requires c κs = tt
 returns : tie.Need-returns
 unfolding openedAfter
 returns c =
-    let e = c .before .before .before .before .before .before in
+    let e = c .before .before .before .before in
+    let d = e .before .before in
     rw (
       c .opened-in .ensures,
-      c .before .stop-first-cycle .ensures,
-      c .before .before .before .before .stops .ensures,
+      c .before .stop-then-edge .ensures,
+      c .before .before .since-dwell3 .ensures,
       e .edge .ensures,
-      e .before .since-dwell2 .ensures,
-      e .before .before .before .since-dwell .ensures,
+      e .before .stops .ensures,
+      d .since-dwell2 .ensures,
+      d .before .before .since-dwell .ensures,
     )
 
 pub opened-after-spec : {M : Type 1} → statement M
@@ -40,8 +45,9 @@ opened-after-spec =
     (tie.spec
     since-dwell-requires
     since-dwell-requires-2
-    edge-requires
     stops-requires
-    stop-first-cycle-requires
+    edge-requires
+    since-dwell-requires-3
+    stop-then-edge-requires
     opened-in-requires
     returns)

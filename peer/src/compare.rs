@@ -9,8 +9,8 @@ use std::thread;
 use std::time::{Duration, Instant};
 
 use crate::generate::{
-    byte_list, cycle_list, damaged_trace, frame_list, step_list, whole_trace, CallList,
-    USUAL_SAMPLES, USUAL_STEPS,
+    byte_list, cycle_list, damaged_trace, frame_list, press_list, step_list, whole_trace, CallList,
+    StopPresses, USUAL_SAMPLES, USUAL_STEPS,
 };
 
 /// Inputs compared at the same time.
@@ -25,6 +25,7 @@ const SHOWN: usize = 300;
 pub enum InputKind {
     Cycles,
     Steps,
+    Presses,
     Bytes,
     Frames,
     Traces,
@@ -36,6 +37,7 @@ impl InputKind {
         [
             InputKind::Cycles,
             InputKind::Steps,
+            InputKind::Presses,
             InputKind::Bytes,
             InputKind::Frames,
             InputKind::Traces,
@@ -49,6 +51,7 @@ impl InputKind {
         match self {
             InputKind::Cycles => "cycles",
             InputKind::Steps => "steps",
+            InputKind::Presses => "presses",
             InputKind::Bytes => "bytes",
             InputKind::Frames => "frames",
             InputKind::Traces => "traces",
@@ -60,6 +63,7 @@ impl InputKind {
         match self {
             InputKind::Cycles => Input::of_list(&cycle_list(seed)),
             InputKind::Steps => Input::of_list(&step_list(seed, USUAL_STEPS)),
+            InputKind::Presses => Input::of_presses(&press_list(seed)),
             InputKind::Bytes => Input::of_list(&byte_list(seed)),
             InputKind::Frames => Input::of_list(&frame_list(seed)),
             InputKind::Traces => Input::of_trace(whole_trace(seed, USUAL_SAMPLES)),
@@ -72,6 +76,9 @@ struct Input {
     bytes: Arc<[u8]>,
     /// Lines that must come out of a list.
     lines: Option<usize>,
+    /// First Cycle presses in the steps of stops, where the lists are made
+    /// for them.
+    presses: StopPresses,
 }
 
 impl Input {
@@ -79,6 +86,14 @@ impl Input {
         Input {
             bytes: list.bytes().into(),
             lines: Some(list.lines()),
+            presses: StopPresses::default(),
+        }
+    }
+
+    fn of_presses(list: &CallList) -> Input {
+        Input {
+            presses: StopPresses::of_list(list),
+            ..Input::of_list(list)
         }
     }
 
@@ -86,6 +101,7 @@ impl Input {
         Input {
             bytes: bytes.into(),
             lines: None,
+            presses: StopPresses::default(),
         }
     }
 }
@@ -100,20 +116,25 @@ pub struct Totals {
     pub steps: u64,
     /// Those of them that are byte reads or writes.
     pub byte_accesses: u64,
+    pub presses: StopPresses,
     /// Lists on which the programs differed or one of them failed.
     pub differences: u64,
 }
 
 impl Totals {
-    /// The last line of a comparison; it counts byte accesses where the lists
-    /// are made of them.
+    /// The last line of a comparison; it counts byte accesses, or presses in
+    /// the steps of stops, where the lists are made for them.
     pub fn line(&self, kind: InputKind) -> String {
-        let accesses = match kind {
+        let counted = match kind {
             InputKind::Bytes => format!(", {} byte accesses", self.byte_accesses),
+            InputKind::Presses => {
+                let StopPresses { steps, counted } = self.presses;
+                format!(", {steps} presses in stop steps, {counted} of them counted")
+            }
             _ => String::new(),
         };
         format!(
-            "compared {} lists, {} calls, {} steps{accesses}, {} differences",
+            "compared {} lists, {} calls, {} steps{counted}, {} differences",
             self.lists, self.calls, self.steps, self.differences
         )
     }
@@ -123,6 +144,8 @@ impl Totals {
         self.calls += result.calls;
         self.steps += result.steps;
         self.byte_accesses += result.byte_accesses;
+        self.presses.steps += result.presses.steps;
+        self.presses.counted += result.presses.counted;
         self.differences += u64::from(result.difference.is_some());
     }
 }
@@ -131,6 +154,7 @@ struct ListResult {
     calls: u64,
     steps: u64,
     byte_accesses: u64,
+    presses: StopPresses,
     difference: Option<String>,
 }
 
@@ -188,6 +212,7 @@ impl Programs<'_> {
             calls: count(|_| true),
             steps: count(is_step),
             byte_accesses: count(is_byte_access),
+            presses: input.presses,
             difference: self
                 .difference(&outputs, input.lines)
                 .map(|difference| format!("{} seed {seed}: {difference}", kind.name())),

@@ -7,6 +7,7 @@ use std::time::{Duration, Instant};
 
 use common::{run_program, run_with_arguments};
 use peer::compare::{InputKind, Programs};
+use peer::generate::{press_list, StopPresses};
 
 const REPLAY: &str = env!("CARGO_BIN_EXE_replay");
 const CAMRUN: &str = env!("CARGO_BIN_EXE_camrun");
@@ -99,6 +100,25 @@ fn byte_accesses_are_counted() {
     let expected = (lines.len(), count(&["step"]), count(&["read", "write"]));
     assert_eq!((calls, steps, accesses), expected);
     assert!(accesses > 3000);
+}
+
+/// The last line has two numbers more, those of the lists.
+#[test]
+fn presses_in_stop_steps_are_counted() {
+    let output = compare(&["presses", "10", "1", REPLAY, REPLAY]);
+    assert_eq!(output.status.code(), Some(0));
+    let presses: Vec<StopPresses> = (1..=10)
+        .map(|seed| StopPresses::of_list(&press_list(seed)))
+        .collect();
+    let steps: u64 = presses.iter().map(|presses| presses.steps).sum();
+    let counted: u64 = presses.iter().map(|presses| presses.counted).sum();
+    let text = text(&output);
+    let end = format!(" {steps} presses in stop steps, {counted} of them counted, 0 differences\n");
+    assert!(
+        text.starts_with("compared 10 lists, ") && text.ends_with(&end),
+        "{text}"
+    );
+    assert!(counted > 50);
 }
 
 /// The replay program's lines for a list.

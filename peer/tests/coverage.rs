@@ -3,7 +3,9 @@
 
 use std::collections::BTreeMap;
 
-use peer::generate::{byte_list, cycle_list, frame_list, step_list, CallList, USUAL_STEPS};
+use peer::generate::{
+    byte_list, cycle_list, frame_list, press_list, step_list, CallList, USUAL_STEPS,
+};
 use peer::replay;
 
 const LISTS: usize = 2000;
@@ -189,7 +191,7 @@ fn other_lists_have_byte_accesses() {
 
 #[test]
 fn a_seed_gives_one_list_and_another_seed_another() {
-    for list in [cycle_list, frame_list, byte_list] {
+    for list in [cycle_list, frame_list, byte_list, press_list] {
         assert_eq!(list(7), list(7));
         assert_ne!(list(7).bytes(), list(8).bytes());
     }
@@ -211,5 +213,8 @@ fn every_call_is_answered() {
             assert_answered(&list);
         }
         assert_answered(&byte_list(seed));
+    }
+    for seed in 0..10 {
+        assert_answered(&press_list(seed));
     }
 }

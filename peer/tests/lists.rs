@@ -50,6 +50,11 @@ fn lists_of_bytes_have_reads_writes_and_steps() {
 }
 
 #[test]
+fn lists_of_presses_have_steps() {
+    assert!(steps(&answers(&["presses", "5"])) > 5000);
+}
+
+#[test]
 fn lists_of_frames_have_both_calls() {
     // A seed whose list is not broken off.
     let text = answers(&["frames", "2"]);
@@ -62,7 +67,7 @@ fn lists_of_frames_have_both_calls() {
 
 #[test]
 fn lists_repeat() {
-    for kind in ["frames", "bytes"] {
+    for kind in ["frames", "bytes", "presses"] {
         let list = written(LISTS, &[kind, "9"]);
         assert_eq!(written(LISTS, &[kind, "9"]), list);
         assert_ne!(written(LISTS, &[kind, "10"]), list);
@@ -89,6 +94,7 @@ fn wrong_arguments_show_the_usage() {
         &["cycles", "x"],
         &["frames"],
         &["frames", "1", "2"],
+        &["presses", "1", "2"],
         &["bytes"],
         &["bytes", "1", "2"],
         &["steps", "1", "2", "3"],

@@ -4,6 +4,7 @@ use std::collections::BTreeMap;
 use std::io;
 
 use crate::cycles::{Answer, NudgeCycle, NUDGE_CLEAR_ERRORS};
+use crate::generate::stops::{is_pressed, Clock};
 use crate::generate::{cycle_list, step_list, CallList, USUAL_STEPS};
 use crate::group::{Group, Mode};
 use crate::module::{Module, Refusal};
@@ -18,8 +19,7 @@ use crate::words::Words;
 #[derive(Default)]
 struct Seen {
     counts: BTreeMap<String, usize>,
-    /// Steps since the module start.
-    steps: u32,
+    clock: Clock,
     /// The last step was a stop.
     stopped: bool,
 }
@@ -56,7 +56,7 @@ impl Seen {
         let bytes = list.bytes();
         let mut words = Words::new(&bytes[..]);
         let mut module = None;
-        self.steps = 0;
+        self.clock = Clock::default();
         while let Some(call) = read_call(&mut words) {
             match (call, &mut module) {
                 (Call::Step(sample), Some(module)) => self.step(module, &sample),
@@ -66,8 +66,8 @@ impl Seen {
                     self.cycle(cycle.name, answer);
                 }
                 (call, module) => {
-                    if matches!(call, Call::PowerUp(_)) {
-                        self.steps = 0;
+                    if let Call::PowerUp(number) = call {
+                        self.clock.power_up(number);
                     }
                     make_call(call, module, &mut io::sink()).expect("nothing is written");
                 }
@@ -76,12 +76,10 @@ impl Seen {
     }
 
     fn cycle(&mut self, name: &str, answer: Answer) {
-        if self.steps > 0 {
+        if self.clock.steps > 0 {
             self.see(format!("{name} {answer:?} after steps"));
         }
-        if name == "setup" && answer == Answer::Accepted {
-            self.steps = 0;
-        }
+        self.clock.cycle(name, answer);
     }
 
     fn nudge(&mut self, module: &mut Module, word: u16) {
@@ -109,13 +107,10 @@ impl Seen {
         let before = module.groups.clone();
         let answer = module.step(sample);
         self.readings(module, &answer);
+        let stop = self.clock.is_update(module, &answer) && answer.rpm == 0;
         if answer.refusal.is_some() {
-            self.steps = 0;
             return;
         }
-        self.steps += 1;
-        let update = self.steps.is_multiple_of(module.setup.window_ms() * 5);
-        let stop = update && answer.rpm == 0;
         self.see_if(stop, "stop");
         for index in 0..before.len() {
             if let (Some(before), Some(after)) = (&before[index], &module.groups[index]) {
@@ -163,8 +158,7 @@ impl Seen {
     }
 
     fn first_cycle(&mut self, before: &Group, after: &Group, stop: bool) {
-        let edge = after.state.first_cycle && !before.state.first_cycle;
-        if after.program.mode != Mode::Mode5 || !edge || !after.state.qualified {
+        if !is_pressed(before, after) || !after.state.qualified {
             return;
         }
         self.see_if(stop, "First Cycle edge in a stop");

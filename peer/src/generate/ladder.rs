@@ -137,6 +137,21 @@ impl Ladder {
         self.sound_cycle(FileKind::Limit);
     }
 
+    /// The same with quick updates of the speed, groups that are mostly in
+    /// Mode 5, and outputs that show whether they are open.
+    pub fn program_mode_5(&mut self) {
+        self.clear_errors();
+        let mut program = self.program.clone();
+        program.draw_quick_setup(&mut self.numbers);
+        self.sound_cycle_of(FileKind::Setup, program);
+        let mut program = self.program.clone();
+        program.draw_mode_5_groups(&mut self.numbers);
+        self.sound_cycle_of(FileKind::Group, program);
+        let mut program = self.program.clone();
+        program.draw_showing_limits(&mut self.numbers);
+        self.sound_cycle_of(FileKind::Limit, program);
+    }
+
     /// A cycle whose words are bad or nearly so, or of a wrong length.
     pub fn faulty_cycle(&mut self, kind: FileKind) {
         let mut program = self.draw_program(kind);

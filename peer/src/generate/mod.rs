@@ -17,15 +17,21 @@ mod frame_lists;
 mod frame_parts;
 mod ladder;
 mod numbers;
+#[cfg(test)]
+mod press_coverage;
+mod press_lists;
 mod program;
 mod samples;
 mod spoil;
 mod step_lists;
+mod stops;
 mod traces;
 
 pub use byte_lists::byte_list;
 pub use call_list::CallList;
 pub use cycle_lists::cycle_list;
 pub use frame_lists::frame_list;
+pub use press_lists::press_list;
 pub use step_lists::{step_list, USUAL_STEPS};
+pub use stops::StopPresses;
 pub use traces::{damaged_trace, whole_trace, USUAL_SAMPLES};

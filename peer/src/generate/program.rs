@@ -5,7 +5,8 @@ use crate::cycles::{GROUP_COMMAND, M0_WORDS, M1_WORDS};
 use crate::generate::file_kind::FileKind;
 use crate::generate::numbers::Numbers;
 use crate::group::{
-    Kind, FIRST_CYCLE_VIRTUAL, GROUPS, GROUP_USED, GROUP_VIRTUAL, MODE_SHIFT, QUANTITY_BITS,
+    Kind, FIRST_CYCLE_VIRTUAL, GROUPS, GROUP_USED, GROUP_VIRTUAL, MODE_BITS, MODE_SHIFT,
+    QUANTITY_BITS,
 };
 use crate::limit_block::{DETECTOR_SHIFT, ENABLE_BIT, HIGHEST_ADVANCE, MOST_TIMED, PAIRS};
 use crate::motion::STEPS_PER_MS;
@@ -131,6 +132,45 @@ impl Program {
     /// Draws setup words with the SF that is in force and the other mode.
     pub fn draw_other_mode(&mut self, numbers: &mut Numbers) {
         self.draw_setup(numbers, self.scale(), !self.is_independent());
+    }
+
+    /// Draws setup words for the quick updates of the speed, in Group Mode.
+    pub fn draw_quick_setup(&mut self, numbers: &mut Numbers) {
+        let scale = draw_scale(numbers);
+        self.draw_setup(numbers, scale, false);
+        self.m0[0] |= TACH_RESPONSE;
+    }
+
+    /// Draws group blocks, most of them in Mode 5.
+    pub fn draw_mode_5_groups(&mut self, numbers: &mut Numbers) {
+        self.draw_groups(numbers);
+        for group in 0..GROUPS {
+            let control = &mut self.m0[group_block_at(group)];
+            if *control & GROUP_USED != 0 && !numbers.one_in(8) {
+                *control = *control & !MODE_BITS | 5 << MODE_SHIFT;
+                if self.real_count == 0 {
+                    *control |= FIRST_CYCLE_VIRTUAL;
+                }
+            }
+        }
+    }
+
+    /// Draws limit blocks, with a switch that holds nearly everywhere for the
+    /// first output of each group.
+    pub fn draw_showing_limits(&mut self, numbers: &mut Numbers) {
+        self.draw_limits(numbers);
+        for group in 0..GROUPS {
+            let control = self.group_block(group)[0];
+            let kind = usize::from(control & GROUP_VIRTUAL != 0);
+            if control & GROUP_USED != 0 {
+                let first = usize::from(self.dealt_before(group)[kind]) + 16 * kind;
+                let off = draw_count(numbers, self.scale());
+                let on = (off + 1) % self.scale();
+                let mut block = [0; LIMIT_BLOCK_WORDS];
+                block[3..5].copy_from_slice(&[on, off]);
+                self.set_limit_block(first, &block);
+            }
+        }
     }
 
     /// Another SF or mode drops groups and limits.

@@ -18,6 +18,9 @@ enum Motion {
     },
     /// Anywhere, one step in so many.
     Jumps(u32),
+    /// So many counts back after each update of the speed, and forward again
+    /// in the next one.
+    Backed(i64),
 }
 
 impl Motion {
@@ -199,9 +202,19 @@ impl Samples {
         2 * window - self.steps % window + 1 + numbers.below(window)
     }
 
+    /// The machine stands or is backed between updates of the speed; tells
+    /// for how many samples, up to so many stops being among them.
+    pub fn draw_stops(&mut self, numbers: &mut Numbers, program: &Program, most: u32) -> u32 {
+        let length = self.draw_stand(numbers, program);
+        if numbers.one_in(3) {
+            self.motion = Motion::Backed(i64::from(numbers.between(1, 500)) * PARTS);
+        }
+        length + numbers.below(most) * program.window_steps()
+    }
+
     pub fn next(&mut self, numbers: &mut Numbers, program: &Program) -> [u16; SAMPLE_WORDS] {
         self.steps += 1;
-        self.move_on(numbers);
+        self.move_on(numbers, program.window_steps());
         self.real.step(numbers);
         self.virt.step(numbers);
         self.first_cycle_edges(numbers, program.window_steps());
@@ -214,7 +227,7 @@ impl Samples {
         sample
     }
 
-    fn move_on(&mut self, numbers: &mut Numbers) {
+    fn move_on(&mut self, numbers: &mut Numbers, window: u32) {
         let speed = match self.motion {
             Motion::Steady(speed) => speed,
             Motion::Swing { speed, turn } if (self.steps / turn).is_multiple_of(2) => speed,
@@ -223,15 +236,22 @@ impl Samples {
                 i64::from(numbers.between(0, 1023)) * PARTS
             }
             Motion::Jumps(_) => 0,
+            Motion::Backed(counts) => match self.steps % window {
+                0 => counts,
+                1 => -counts,
+                _ => 0,
+            },
         };
         self.position = (self.position + speed).rem_euclid(1024 * PARTS);
     }
 
-    /// Makes edges of the First Cycle Inputs in updates and right after.
+    /// Makes edges of the First Cycle Inputs in updates and right after, and
+    /// holds them from before.
     fn first_cycle_edges(&mut self, numbers: &mut Numbers, window: u32) {
         let active = match self.steps % window {
-            step if step + 1 == window => false,
-            0 | 1 => numbers.one_in(2),
+            step if step + 1 == window => numbers.one_in(8),
+            0 => !numbers.one_in(4),
+            1 => numbers.one_in(2),
             _ => return,
         };
         self.real.set_first_cycle(active);

@@ -1,0 +1,38 @@
+//! Lists in which First Cycle is pressed in the steps of stops: groups that
+//! are mostly in Mode 5, run, stand for some updates of the speed and run
+//! again.
+
+use crate::generate::call_list::CallList;
+use crate::generate::ladder::Ladder;
+use crate::generate::samples::Samples;
+
+/// Runs of the machine in a list, each with stops after it.
+const RUNS: u32 = 5;
+/// The most stops after one run.
+const MOST_STOPS: u32 = 5;
+/// Byte accesses follow one call in so many.
+const ACCESSES_EVERY: u32 = 200;
+
+/// The list of a seed.
+pub fn press_list(seed: u64) -> CallList {
+    // Other numbers than the other lists have for the seed.
+    let mut ladder = Ladder::new(seed.rotate_left(32), ACCESSES_EVERY);
+    let mut samples = Samples::new();
+    ladder.power_up();
+    ladder.program_mode_5();
+    samples.module_start();
+    for _ in 0..RUNS {
+        let length = samples.draw_run(&mut ladder.numbers, &ladder.program);
+        make_steps(&mut ladder, &mut samples, length);
+        let length = samples.draw_stops(&mut ladder.numbers, &ladder.program, MOST_STOPS);
+        make_steps(&mut ladder, &mut samples, length);
+    }
+    ladder.list
+}
+
+fn make_steps(ladder: &mut Ladder, samples: &mut Samples, count: u32) {
+    for _ in 0..count {
+        let sample = samples.next(&mut ladder.numbers, &ladder.program);
+        ladder.step(&sample);
+    }
+}

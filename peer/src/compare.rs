@@ -116,6 +116,7 @@ pub struct Totals {
     pub steps: u64,
     /// Those of them that are byte reads or writes.
     pub byte_accesses: u64,
+    /// What the lists of presses have of them.
     pub presses: StopPresses,
     /// Lists on which the programs differed or one of them failed.
     pub differences: u64,

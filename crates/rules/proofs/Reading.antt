@@ -72,7 +72,7 @@ mode5-reads h = (
   λ e. pair (latestSaw← beginsAt dwellAt qualifiesAt h (e .0)) (noLater← (λ j. qualifiesAt j || countsAt j) stopAt h (e .1)),
 )
 
--- Mode 5 in a step with a First Cycle edge, a stop in it or not: open exactly where the latest dwell saw a qualifying step
+-- an edge of this very step: no stop is later, so that only whether it counts is left
 absorbed : (l q r : Bool) → (l && ((q || l) || r)) ≡ l
 absorbed true true r = refl
 absorbed true false r = refl
@@ -85,6 +85,7 @@ pressed (s ∷ h) f =
     rw (later-step (λ j. qualifiesAt j || countsAt j) stopAt s h, f)
     (absorbed (latestDwellSaw qualifiesAt (s ∷ h)) (qualifiesAt (s ∷ h)) (not (stopAt (s ∷ h)) && noLater (λ j. qualifiesAt j || countsAt j) stopAt h))
 
+-- Mode 5 in a step with a First Cycle edge, a stop in it or not: open exactly where the latest dwell saw a qualifying step
 pub mode5-pressed : (h : List PastStep) → firstEdgeAt h ≡ true → (openAt Mode5 h ≡ true) ↔ LatestSaw beginsAt dwellAt qualifiesAt h
 unfolding latestDwellSaw
 mode5-pressed h f = rw (pressed h f) (latestSaw-reads beginsAt dwellAt h qualifiesAt)
@@ -95,14 +96,14 @@ unfolding stopAt qualifiesAt runningAt
 stop-plain [] z = absurd (false≢true z)
 stop-plain (s ∷ h) z = by (dwellAt (s ∷ h) && running (s .event)) (λ t. clash z (no-stop (dwellAt (s ∷ h)) (s .event) t)) (λ q. q)
 
--- in the step of a stop without a First Cycle edge: closed
+-- Mode 5 in the step of a stop without a First Cycle edge: closed
 pub mode5-stopped : (h : List PastStep) → stopAt h ≡ true → firstEdgeAt h ≡ false → openAt Mode5 h ≡ false
 unfolding openAt countsAt
 mode5-stopped [] z f = clash z (unfold stopAt in refl)
 mode5-stopped (s ∷ h) z f =
     rw (later-step (λ j. qualifiesAt j || countsAt j) stopAt s h, f, z, stop-plain (s ∷ h) z) (and-false (latestDwellSaw qualifiesAt (s ∷ h)))
 
--- in the step of a stop in which a dwell begins: closed, with a First Cycle edge or without
+-- Mode 5 in the step of a stop in which a dwell begins: closed, with a First Cycle edge or without
 pub mode5-begun : (h : List PastStep) → stopAt h ≡ true → beginsAt h ≡ true → openAt Mode5 h ≡ false
 mode5-begun [] z b = clash z (unfold stopAt in refl)
 mode5-begun (s ∷ h) z b =

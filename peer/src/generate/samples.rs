@@ -203,13 +203,14 @@ impl Samples {
     }
 
     /// The machine stands or is backed between updates of the speed; tells
-    /// for how many samples, up to so many stops being among them.
-    pub fn draw_stops(&mut self, numbers: &mut Numbers, program: &Program, most: u32) -> u32 {
+    /// for how many samples, a stop being among them and up to `longer`
+    /// updates after it.
+    pub fn draw_stops(&mut self, numbers: &mut Numbers, program: &Program, longer: u32) -> u32 {
         let length = self.draw_stand(numbers, program);
-        if numbers.one_in(3) {
+        if numbers.one_in(2) {
             self.motion = Motion::Backed(i64::from(numbers.between(1, 500)) * PARTS);
         }
-        length + numbers.below(most) * program.window_steps()
+        length + numbers.below(longer) * program.window_steps()
     }
 
     pub fn next(&mut self, numbers: &mut Numbers, program: &Program) -> [u16; SAMPLE_WORDS] {

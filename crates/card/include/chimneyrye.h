@@ -146,21 +146,16 @@ typedef struct {
     uint16_t at;
 } chimneyrye_last;
 
+/* The steps since the window's beginning, and the sum of their movements, 512 added for each. */
 typedef struct {
     uint16_t steps;
     uint32_t sum;
 } chimneyrye_window;
 
-/* A sum of movements. */
-typedef struct {
-    bool negative;
-    uint32_t counts;
-} chimneyrye_movement;
-
 typedef struct {
     chimneyrye_last last;
     chimneyrye_window shortwindow, longwindow; /* of c, and of C */
-    chimneyrye_movement c;
+    uint32_t c; /* 61440 added: 512 for each of its 120 steps */
     uint32_t rpm;
 } chimneyrye_speed;
 

@@ -1,9 +1,20 @@
-// Counts of a turn, modulo the scale factor: differences, sums, and a pair of setpoints. `top` is the scale factor less one.
+// Counts of a turn: how far two are apart, and modulo the scale factor differences, sums, and a pair of setpoints. `top` is the scale factor less one.
 
 ghost use mathlib.Core.Path.{_≡_};
 ghost use Prim.Native.Nat.{_+_, _%_};
+ghost use lib.IntN.{natAbs, subℕ};
 ghost use Rattle.rules.specs.Counts as counts;
 ghost use Rattle.rules.specs.Counts.{usedPair, pairBad};
+
+// How far two counts are apart: |a − b|.
+pub fn apart(a: u32, b: u32) -> u32
+    ensures { λ r. ⌜ r ≡ natAbs (subℕ a b) ⌝ }
+{
+    if a < b {
+        return b - a;
+    }
+    a - b
+}
 
 // How far `to` is ahead of `from`: (to − from) mod SF. In range one comparison and one subtraction, else the remainder.
 pub fn ahead(top: u16, from: u16, to: u16) -> u16

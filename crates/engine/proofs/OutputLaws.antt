@@ -16,7 +16,7 @@ use Rattle.rules.specs.declared.TimedState.{TimedState}
 use Rattle.rules.specs.declared.GroupPosition.{GroupPosition}
 use Rattle.rules.specs.declared.Conditions.{Conditions}
 use Rattle.rules.specs.Variants.{switchOf, limitSwitch}
-use Rattle.rules.specs.Motion.{movementValue}
+use Rattle.rules.specs.Motion.{cValue}
 use Rattle.rules.specs.Switches.{pairHolds, switchHolds, switchPosition, passes, outputRule, timedHolds}
 use Rattle.rules.specs.Card.{freshTimed, timedAfter, timedNow}
 
@@ -86,12 +86,12 @@ module _ (w : Conditions) (l : Limit) (position : GroupPosition) where
     pub timed-on : (x : TimedState) → l .action .kind ≡ 3 → outputRule w l position isopen (ltb 0 (timedNow w l position x .left)) n ≡ (ltb 0 (timedNow w l position x .left) && passes w l isopen n)
     unfolding outputRule timedNow timedHolds
     timed-on x e =
-        rw (timed (l .action) e, lasts (l .action .duration) (w .top + 1) (movementValue (w .c)) l (switchPosition w position) x)
+        rw (timed (l .action) e, lasts (l .action .duration) (w .top + 1) (cValue (w .c)) l (switchPosition w position) x)
 
     pub untimed-on : (lasting : Bool) → (l .action .kind ≡ 3 → ⊥) → outputRule w l position isopen lasting n ≡ outputRule w l position isopen false n
     unfolding outputRule
     untimed-on lasting h =
-        rw (no-time (limitSwitch l) (w .top + 1) (movementValue (w .c)) l (switchPosition w position) lasting (untimed (l .action) h))
+        rw (no-time (limitSwitch l) (w .top + 1) (cValue (w .c)) l (switchPosition w position) lasting (untimed (l .action) h))
 
     pub none-on : (lasting : Bool) → l .action .kind ≡ 0 → outputRule w l position isopen lasting n ≡ false
     unfolding outputRule switchHolds

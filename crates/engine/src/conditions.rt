@@ -6,7 +6,6 @@ ghost use Rattle.rules.specs.Card as card;
 use rules::Conditions;
 use rules::Configuration;
 use rules::MachinePosition;
-use rules::Movement;
 use rules::Sample;
 use rules::Setup;
 use rules::Speed;
@@ -24,7 +23,7 @@ fn conditions_with(
     g: Configuration,
     s: Sample,
     machine: MachinePosition,
-    c: Movement,
+    c: u32,
     rpm: u32,
     update: bool,
     md1: bool,

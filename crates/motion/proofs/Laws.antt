@@ -1,4 +1,4 @@
--- Laws of the rules of motion: the word of the active real inputs, remainders as naturals, bounds of the products, and the signed numbers that the state's unsigned ones stand for.
+-- Laws of the rules of motion: the word of the active real inputs, remainders as naturals, and bounds of the products.
 -- Assumes nothing.
 use Prim.Native.Nat.{ℕ, zero, suc, _+_, _-_, _%_, _^_, _≤_, _<_}
 use mathlib.Core.Bool.{Bool, true, false, not, _&&_, xor, Bool·beq}
@@ -6,20 +6,18 @@ use mathlib.Core.Path.{_≡_, refl, sym, ap, _∙_}
 use native.Mathlib.Nat.{mul-le-mul}
 use native.Mathlib.Numerals.{add-one}
 use native.Mathlib.Omega.{arith}
-use borrow.Author.Tests.{ltb-true, ltb-false, lt-ltb, le-ltb, leb-false, ne-eqb}
+use borrow.Author.Tests.{leb-false, ne-eqb}
 use lib.Bits.{bitAnd, bitOr, bitXor}
 use lib.Dec.{ltb, leb, eqb, leb·zero, leb·suc-suc, eqb·suc-zero}
-use lib.IntN.{pos, negsuc, natAbs, subℕ, _+ℤ_}
 use Rattle.rules.specs.declared.Model.{Model}
 use Rattle.rules.specs.declared.DecimalCode.{DecimalCode}
 use Rattle.rules.specs.declared.DecimalCode.the-variants.{Code0, Code1, Code2, Code3}
-use Rattle.rules.specs.declared.Movement.{Movement}
 use Rattle.rules.specs.declared.Setup.{Setup}
 use Rattle.rules.specs.declared.Sample.{Sample}
 use Rattle.rules.specs.declared.Window.{Window}
-use Rattle.rules.specs.Words.{bit, wordOf, modulo, forced}
+use Rattle.rules.specs.Words.{bit, wordOf, forced}
 use Rattle.rules.specs.Variants.{realCount, codeNumber}
-use Rattle.rules.specs.Motion.{realInput, turned, scaledPosition, rpmOf, signed, movementValue}
+use Rattle.rules.specs.Motion.{realInput, turned, scaledPosition}
 use Rattle.rules.specs.Card.{updates}
 use Rattle.rules.proofs.Laws.{modulo-natural}
 use Rattle.rules.proofs.Packing.{packed-same}
@@ -58,26 +56,6 @@ pub scaled-le : (top q : ℕ) → top < 65536 → q < 65536 → scaledPosition (
 unfolding scaledPosition
 scaled-le top q a b = omega (arith, mul-le-mul {n₁ = q} {m₁ = top + 1} {n₂ = 65535} {m₂ = 65536} (omega arith) (omega arith))
 
-by-order : (a b k : ℕ) (s t : Bool) → ltb a b ≡ s → ltb (a + k) b ≡ t → subℕ a b +ℤ pos k ≡ subℕ (a + k) b
-by-order a b k true true g h =
-    let l : a < b = ltb-true a b g in
-    let m : a + k < b = ltb-true (a + k) b h in
-    rw (g, h, lt-ltb k (suc (b - suc a)) (omega arith)) (ap negsuc (omega arith))
-by-order a b k true false g h =
-    let l : a < b = ltb-true a b g in
-    let m : b ≤ a + k = ltb-false (a + k) b h in
-    rw (g, h, le-ltb k (suc (b - suc a)) (omega arith)) (ap pos (omega arith))
-by-order a b k false t g h =
-    let l : b ≤ a = ltb-false a b g in
-    rw (g, le-ltb (a + k) b (omega arith)) (ap pos (omega arith))
-
--- (a − b) + k
-pub difference-add : (a b k : ℕ) → subℕ a b +ℤ pos k ≡ subℕ (a + k) b
-difference-add a b k = by-order a b k (ltb a b) (ltb (a + k) b) refl refl
-
-pub biased-natural : (last q : ℕ) → modulo (subℕ q last +ℤ pos 512) 1024 ≡ (q + (1024 - last % 1024) + 512) % 1024
-biased-natural last q = rw (difference-add q last 512) (modulo-natural (q + 512) last 1023 ∙ omega arith)
-
 -- ---- Windows
 
 pub updates-natural : (size : ℕ) (w : Window) → leb size (w .steps + 1) ≡ updates size w
@@ -91,15 +69,6 @@ updates-natural (suc n) w =
 pub steps-below : (size : ℕ) (w : Window) → updates size w ≡ false → w .steps + 1 < size
 unfolding updates
 steps-below size w h = omega (arith, leb-false (size - 1) (w .steps) h)
-
-signed-size : (negative : Bool) (n : ℕ) → natAbs (signed negative n) ≡ n
-signed-size true zero = refl
-signed-size true (suc n) = refl
-signed-size false n = refl
-
-pub rpm-movement : (fast : Bool) (t : Movement) → rpmOf fast (movementValue t) ≡ rpmOf fast (pos (t .counts))
-unfolding rpmOf
-rpm-movement fast t = rw (signed-size (t .negative) (t .counts))
 
 -- ---- Tachometer and detectors
 

@@ -15,7 +15,6 @@ use rules::IoType;
 use rules::Last;
 use rules::MachinePosition;
 use rules::Model;
-use rules::Movement;
 use rules::Sample;
 use rules::Scalars;
 use rules::Setup;
@@ -140,23 +139,6 @@ pub fn window_after(size: u16, w: Window, m: u16) -> Window
     }
 }
 
-// The movements that a window's sum stands for, the 512 of each step taken off again.
-pub fn window_movement(size: u16, sum: u32) -> Movement
-    ensures { λ r. ⌜ r ≡ card.windowMovement size sum ⌝ }
-{
-    let added = 512 * size as u32;
-    if sum < added {
-        return Movement {
-            negative: true,
-            counts: added - sum,
-        };
-    }
-    Movement {
-        negative: false,
-        counts: sum - added,
-    }
-}
-
 // rpm of |C|, rounded half up.
 pub fn rpm_of(fast: bool, counts: u32) -> u32
     ensures { λ r. ⌜ r ≡ motion.rpmOf fast (pos counts) ⌝ }
@@ -167,13 +149,13 @@ pub fn rpm_of(fast: bool, counts: u32) -> u32
     ((120000 * counts as u64 + 516096) / 1032192) as u32
 }
 
-// c after a step.
-fn c_after(x: Speed, m: u16) -> Movement
+// c after a step, with what its window added.
+fn c_after(x: Speed, m: u16) -> u32
     ensures { λ r. ⌜ r ≡ card.cAfter x m ⌝ }
 {
     let short = x.short;
     if updates(SHORT_STEPS, short) {
-        return window_movement(SHORT_STEPS, window_sum(short, m));
+        return window_sum(short, m);
     }
     x.c
 }
@@ -185,8 +167,8 @@ fn rpm_after(fast: bool, x: Speed, m: u16) -> u32
     let size = window_steps(fast);
     let long = x.long;
     if updates(size, long) {
-        let t = window_movement(size, window_sum(long, m));
-        return rpm_of(fast, t.counts);
+        let added = 512 * size as u32;
+        return rpm_of(fast, counts::apart(window_sum(long, m), added));
     }
     x.rpm
 }

@@ -31,7 +31,7 @@ use Rattle.rules.proofs.Laws.{mod-below}
 use Rattle.rules.proofs.Packing.{getD-table-0, table-same}
 use Rattle.rules.proofs.GroupPast.{GroupLink, group-step, group-fresh, position-is, open-is}
 use Rattle.rules.proofs.Timed.{TimedLink, timed-step, timed-fresh, lasting-is}
-use Rattle.rules.proofs.Windows.{SpeedLink, speed-step, speed-fresh, c-is, rpm-is, updates-is}
+use Rattle.rules.proofs.Windows.{SpeedLink, speed-step, speed-fresh, c-held, rpm-is, updates-is}
 use Rattle.rules.proofs.Cycles.{either-way, file-leaves, nudge-leaves, step-programming}
 
 -- ---- The configuration
@@ -116,7 +116,7 @@ module _ (model : Model) (l : List Call) (x : SinceStart) (k : Agrees (programmi
   unfolding conditionsNow conditionsIn speedNow speedAfter rpmIn turnedIn
   conditions-are =
       rw (
-        c-is (p .setup) (x .speed) (sinceModuleStart model l) (k .speed) q,
+        c-held (p .setup) (x .speed) (sinceModuleStart model l) (k .speed) q,
         rpm-is (p .setup) (x .speed) (sinceModuleStart model l) (k .speed) q,
         updates-is (p .setup) (x .speed) (sinceModuleStart model l) (k .speed) q,
       )

@@ -80,7 +80,7 @@ unfolding Quant.afterEach Quant.noLater Quant.latestSaw Quant.heldUnder
 quantifiers = tt
 
 past1 : Unit {0}
-unfolding History.configurationOf History.isModuleStart History.isGroupStart History.isLimitStart History.since History.turnedIn History.sinceModuleStart History.movementFrom History.movements History.windowTotal History.cOf History.rpmAt History.updateAt History.rpmIn History.conditionsIn History.beginsAt History.takesAt History.levelAt
+unfolding History.configurationOf History.isModuleStart History.isGroupStart History.isLimitStart History.since History.turnedIn History.sinceModuleStart History.movementFrom History.movements History.windowTotal History.cOf History.bigCOf History.rpmAt History.updateAt History.rpmIn History.conditionsIn History.beginsAt History.takesAt History.levelAt
 past1 = tt
 
 past2 : Unit {0}
@@ -104,7 +104,7 @@ unfolding BusHistory.lastShown BusHistory.shownConfiguration BusHistory.byteTold
 past4 = tt
 
 card1 : Unit {0}
-unfolding Card.biasedMovement Card.updates Card.windowSum Card.windowAfter Card.windowMovement Card.cAfter Card.rpmAfter Card.speedAfter Card.positionBy Card.beginsNow Card.takesNow Card.shiftNow Card.positionNow Card.heldNow Card.qualifiedNow Card.openedNow Card.groupAfter Card.speedNow Card.conditionsNow Card.groupNow
+unfolding Card.biasedMovement Card.updates Card.windowSum Card.windowAfter Card.cAfter Card.rpmAfter Card.speedAfter Card.positionBy Card.beginsNow Card.takesNow Card.shiftNow Card.positionNow Card.heldNow Card.qualifiedNow Card.openedNow Card.groupAfter Card.speedNow Card.conditionsNow Card.groupNow
 card1 = tt
 
 card2 : Unit {0}

@@ -10,7 +10,7 @@ use borrow.Author.Tests.{ltb-true, ltb-false, le-ltb}
 use lib.ListN.{length, getD, set, length-set}
 use lib.Seq.{getD-set-other}
 use lib.Dec.{ltb}
-use lib.IntN.{ℤ, pos, negsuc, subℕ, _-ℤ_}
+use lib.IntN.{ℤ, pos, negsuc, negℤ, subℕ, _+ℤ_, _-ℤ_, +ℤ-assoc, +ℤ-comm, negℤ-+ℤ}
 use Rattle.rules.specs.Words.{modulo, storedAt}
 use Rattle.rules.specs.Counts.{ahead}
 
@@ -22,6 +22,24 @@ positive n k = omega arith
 pub minus : (a b : ℕ) → pos a -ℤ pos b ≡ subℕ a b
 minus a zero = rw (le-ltb a 0 (omega arith)) (ap pos (omega arith))
 minus a (suc b) = refl
+
+exchange : (a b c d : ℤ) → (a +ℤ b) +ℤ (c +ℤ d) ≡ (a +ℤ c) +ℤ (b +ℤ d)
+exchange a b c d =
+    +ℤ-assoc a b (c +ℤ d)
+    ∙ ap (λ (z : ℤ). a +ℤ z) (sym (+ℤ-assoc b c d) ∙ ap (λ (z : ℤ). z +ℤ d) (+ℤ-comm b c) ∙ +ℤ-assoc c b d)
+    ∙ sym (+ℤ-assoc a c (b +ℤ d))
+
+-- (a − b) + (c − d) = (a + c) − (b + d)
+pub add-differences : (a b c d : ℕ) → (pos a -ℤ pos b) +ℤ (pos c -ℤ pos d) ≡ pos (a + c) -ℤ pos (b + d)
+add-differences a b c d =
+    exchange (pos a) (negℤ (pos b)) (pos c) (negℤ (pos d)) ∙ ap (λ (z : ℤ). pos (a + c) +ℤ z) (sym (negℤ-+ℤ (pos b) (pos d)))
+
+-- (a − b) + c
+difference-add : (a b c : ℕ) → subℕ a b +ℤ pos c ≡ subℕ (a + c) b
+difference-add a b c =
+    let e : c + 0 ≡ c = omega arith in
+    let f : b + 0 ≡ b = omega arith in
+    rw (← minus a b, ← minus (a + c) b) (rw (e, f) at (add-differences a b c 0))
 
 -- a remainder stays below its divisor
 pub mod-below : (x t : ℕ) → x % (t + 1) < t + 1
@@ -55,6 +73,10 @@ by-order a b t false h =
 
 pub modulo-natural : (a b t : ℕ) → modulo (subℕ a b) (t + 1) ≡ (a + (t + 1 - b % (t + 1))) % (t + 1)
 modulo-natural a b t = by-order a b t (ltb a b) refl
+
+-- ((q − last + 512) mod 1024) of a movement
+pub biased-natural : (last q : ℕ) → modulo (subℕ q last +ℤ pos 512) 1024 ≡ (q + (1024 - last % 1024) + 512) % 1024
+biased-natural last q = rw (difference-add q last 512) (modulo-natural (q + 512) last 1023 ∙ omega arith)
 
 pub ahead-natural : (t from to : ℕ) → ahead (t + 1) from to ≡ (to + (t + 1 - from % (t + 1))) % (t + 1)
 unfolding ahead

@@ -8,35 +8,21 @@ use native.Mathlib.Nat.{zero-mod, suc-mod, mod-lt, mod-self, mod-eq-of-lt, mod-l
 use native.Mathlib.Omega.{arith}
 use lib.ListN.{length, take, drop}
 use lib.Dec.{ltb, eqb, lit<, lit≤}
-use lib.IntN.{ℤ, pos, negsuc, negℤ, subℕ, _+ℤ_, _-ℤ_, +ℤ-assoc, +ℤ-comm, negℤ-+ℤ}
+use lib.IntN.{ℤ, pos, natAbs, subℕ, _+ℤ_, _-ℤ_, -ℤ-+ℤ-cancel}
 use borrow.Author.Tests.{ltb-true, ltb-false, leb-true, leb-false, lt-ltb, le-ltb, eq-eqb, ne-eqb}
 use Rattle.rules.specs.declared.Setup.{Setup}
 use Rattle.rules.specs.declared.Last.{Last}
 use Rattle.rules.specs.declared.Window.{Window}
 use Rattle.rules.specs.declared.Speed.{Speed}
 use Rattle.rules.specs.Words.{modulo, roundHalfUp}
-use Rattle.rules.specs.Motion.{movement, windowSteps, windowTime, shortSteps, rpmOf, movementValue, movementOf}
-use Rattle.rules.specs.Card.{biasedMovement, updates, windowSum, windowAfter, windowMovement, cAfter, rpmAfter, speedAfter, freshWindow, freshSpeed}
-use Rattle.rules.specs.History.{movementFrom, movements, total, windowTotal, cOf, rpmAt, updateAt}
-use Rattle.rules.proofs.Laws.{modulo-below, minus}
+use Rattle.rules.specs.Motion.{movement, windowSteps, windowTime, shortSteps, rpmOf, unbiased, cValue, biasedC}
+use Rattle.rules.specs.Card.{biasedMovement, updates, windowSum, windowAfter, cAfter, rpmAfter, speedAfter, freshWindow, freshSpeed}
+use Rattle.rules.specs.History.{movementFrom, movements, total, windowTotal, cOf, bigCOf, rpmAt, updateAt}
+use Rattle.rules.proofs.Laws.{modulo-below, minus, add-differences}
 
--- ---- Signed sums
-
-exchange : (a b c d : ℤ) → (a +ℤ b) +ℤ (c +ℤ d) ≡ (a +ℤ c) +ℤ (b +ℤ d)
-exchange a b c d =
-    +ℤ-assoc a b (c +ℤ d)
-    ∙ ap (λ (z : ℤ). a +ℤ z) (sym (+ℤ-assoc b c d) ∙ ap (λ (z : ℤ). z +ℤ d) (+ℤ-comm b c) ∙ +ℤ-assoc c b d)
-    ∙ sym (+ℤ-assoc a c (b +ℤ d))
-
--- (a − b) + (c − d) = (a + c) − (b + d)
-add-differences : (a b c d : ℕ) → (pos a -ℤ pos b) +ℤ (pos c -ℤ pos d) ≡ pos (a + c) -ℤ pos (b + d)
-add-differences a b c d =
-    exchange (pos a) (negℤ (pos b)) (pos c) (negℤ (pos d)) ∙ ap (λ (z : ℤ). pos (a + c) +ℤ z) (sym (negℤ-+ℤ (pos b) (pos d)))
-
--- a sign and a magnitude stand for the number that they were made of
-pub movement-value : (z : ℤ) → movementValue (movementOf z) ≡ z
-movement-value (pos n) = refl
-movement-value (negsuc n) = refl
+-- what a number stands for is held by that number
+pub held-c : (n : ℕ) → biasedC (cValue n) ≡ n
+held-c n = rw (← minus n (512 * shortSteps)) (ap natAbs (-ℤ-+ℤ-cancel (pos n) (pos (512 * shortSteps))))
 
 -- ---- Movements
 
@@ -58,7 +44,7 @@ biased-below last q = go (last .stepped)
     go true = let b = modulo-below (subℕ q (last .at) +ℤ pos 512) 1023 in omega arith
     go false = lit≤ tt
 
-length-movements : (qs : List ℕ) → length (movements qs) ≡ length qs
+pub length-movements : (qs : List ℕ) → length (movements qs) ≡ length qs
 unfolding movements
 length-movements [] = refl
 length-movements (q ∷ qs) = ap suc (length-movements qs)
@@ -164,7 +150,7 @@ pub record SpeedLink (fast : Bool) (x : Speed) (qs : List ℕ) : Type 0 where
   pub last : x .last ≡ lastOf qs
   pub short : WindowLink shortSteps (movements qs) (x .short)
   pub long : WindowLink (windowSteps fast) (movements qs) (x .long)
-  pub c : x .c ≡ movementOf (cOf qs)
+  pub c : cValue (x .c) ≡ cOf qs
   pub rpm : x .rpm ≡ rpmAt fast qs
 
 short-some : 0 < shortSteps
@@ -193,31 +179,39 @@ module _ (u : Setup) (x : Speed) (qs : List ℕ) (k : SpeedLink (u .fast) x qs) 
   abbrev b : m ≤ 1023
   b = biased-below (x .last) q
 
-  pub c-is : cAfter x m ≡ movementOf (cOf (q ∷ qs))
-  unfolding cAfter cOf movements windowMovement
+  c-is : cValue (cAfter x m) ≡ cOf (q ∷ qs)
+  unfolding cAfter cOf movements
   c-is =
-      rw (k .c) (go (updates shortSteps (x .short)))
-      ∙ ap movementOf (value-is shortSteps short-some short-small (movements qs) (x .short) (k .short) m b (cOf qs) (unfold cOf in refl)
-      ∙ ap (λ (z : ℤ). windowTotal shortSteps (z ∷ movements qs)) m-is)
+      go (updates shortSteps (x .short))
+      ∙ value-is shortSteps short-some short-small (movements qs) (x .short) (k .short) m b (cValue (x .c)) (unfold cOf in k .c)
+      ∙ ap (λ (z : ℤ). windowTotal shortSteps (z ∷ movements qs)) m-is
     where
-      go : (u : Bool)
-          → cond u (movementOf (subℕ (windowSum (x .short) m) (512 * shortSteps))) (movementOf (cOf qs))
-          ≡ movementOf (cond u (subℕ (windowSum (x .short) m) (512 * shortSteps)) (cOf qs))
+      go : (u : Bool) → cValue (cond u (windowSum (x .short) m) (x .c)) ≡ cond u (unbiased shortSteps (windowSum (x .short) m)) (cValue (x .c))
       go true = refl
       go false = refl
 
+  pub c-held : cAfter x m ≡ biasedC (cOf (q ∷ qs))
+  c-held = sym (held-c (cAfter x m)) ∙ ap biasedC c-is
+
   pub rpm-is : rpmAfter (u .fast) x m ≡ rpmAt (u .fast) (q ∷ qs)
-  unfolding rpmAfter rpmAt movements windowMovement
+  unfolding rpmAfter rpmAt bigCOf movements
   rpm-is =
       go (updates (windowSteps (u .fast)) (x .long))
       ∙ ap (rpmOf (u .fast)) (value-is (windowSteps (u .fast)) (long-some (u .fast)) (long-small (u .fast)) (movements qs) (x .long) (k .long) m b _ refl)
       ∙ ap (λ (z : ℤ). rpmOf (u .fast) (windowTotal (windowSteps (u .fast)) (z ∷ movements qs))) m-is
     where
       go : (c : Bool)
-          → cond c (rpmOf (u .fast) (movementValue (movementOf (subℕ (windowSum (x .long) m) (512 * windowSteps (u .fast)))))) (x .rpm)
-          ≡ rpmOf (u .fast) (cond c (subℕ (windowSum (x .long) m) (512 * windowSteps (u .fast))) (windowTotal (windowSteps (u .fast)) (movements qs)))
-      go true = ap (rpmOf (u .fast)) (movement-value _)
-      go false = unfold rpmAt in k .rpm
+          → cond c (rpmOf (u .fast) (unbiased (windowSteps (u .fast)) (windowSum (x .long) m))) (x .rpm)
+          ≡ rpmOf (u .fast) (cond c (unbiased (windowSteps (u .fast)) (windowSum (x .long) m)) (windowTotal (windowSteps (u .fast)) (movements qs)))
+      go true = refl
+      go false = unfold rpmAt bigCOf in k .rpm
+
+  -- C is made in an update and not kept: the number that the step makes stands for it
+  pub big-c-is : updates (windowSteps (u .fast)) (x .long) ≡ true → unbiased (windowSteps (u .fast)) (windowSum (x .long) m) ≡ bigCOf (u .fast) (q ∷ qs)
+  unfolding bigCOf movements
+  big-c-is e =
+      rw (← m-is)
+      (rw e at (value-is (windowSteps (u .fast)) (long-some (u .fast)) (long-small (u .fast)) (movements qs) (x .long) (k .long) m b _ refl))
 
   pub updates-is : updates (windowSteps (u .fast)) (x .long) ≡ updateAt (u .fast) (q ∷ qs)
   unfolding updateAt
@@ -236,7 +230,7 @@ module _ (u : Setup) (x : Speed) (qs : List ℕ) (k : SpeedLink (u .fast) x qs) 
   }
 
 pub speed-fresh : (fast : Bool) → SpeedLink fast freshSpeed []
-unfolding lastOf movements cOf rpmAt windowTotal
+unfolding lastOf movements cOf bigCOf rpmAt windowTotal
 speed-fresh fast = record {
   last = refl;
   short = window-fresh shortSteps;

@@ -1,6 +1,6 @@
 -- The state machine: what each call does to a module, its answer and its file. The contracts of the public calls cite it.
 -- Assumes nothing.
-use Prim.Native.Nat.{ℕ, _+_, _-_, _*_, _%_, _^_}
+use Prim.Native.Nat.{ℕ, _+_, _-_, _%_, _^_}
 use mathlib.Core.Bool.{Bool, true, false, cond, not, _&&_, _||_}
 use mathlib.Core.List.{List}
 use lib.ListN.{getD, replicate}
@@ -20,7 +20,6 @@ use Rattle.rules.specs.declared.Programming.{Programming}
 use Rattle.rules.specs.declared.Configuration.{Configuration}
 use Rattle.rules.specs.declared.Last.{Last}
 use Rattle.rules.specs.declared.Window.{Window}
-use Rattle.rules.specs.declared.Movement.{Movement}
 use Rattle.rules.specs.declared.Speed.{Speed}
 use Rattle.rules.specs.declared.GroupState.{GroupState}
 use Rattle.rules.specs.declared.TimedState.{TimedState}
@@ -44,7 +43,7 @@ use Rattle.rules.specs.declared.StepResult.{StepResult}
 use Rattle.rules.specs.declared.ByteRead.{ByteRead}
 use Rattle.rules.specs.Words.{table, modulo}
 use Rattle.rules.specs.Variants.{modelKnown, modelOf, modelIn, groupMode, limitSwitch}
-use Rattle.rules.specs.Motion.{turned, windowSteps, shortSteps, rpmOf, movementValue, movementOf, conditions, faultConditions, realInputs, scale}
+use Rattle.rules.specs.Motion.{turned, windowSteps, shortSteps, rpmOf, unbiased, biasedC, conditions, faultConditions, realInputs, scale}
 use Rattle.rules.specs.Groups.{noGroup, dwellHolds, groupPosition, presetShift, presets, edge, stops, running, isOpen, groupEvent, ofGroup, noPosition}
 use Rattle.rules.specs.Switches.{timedSteps, limitOf, ownerOf, ruleAt, timedHolds, outputWords, answerOf}
 use Rattle.rules.specs.Cycle.{isAccepted}
@@ -70,18 +69,14 @@ windowSum w moved = (w .sum + moved) % 2 ^ 32
 unfoldable pub windowAfter : ℕ → Window → ℕ → Window
 windowAfter size w moved = cond (updates size w) (record { steps = 0; sum = 0 }) (record { steps = w .steps + 1; sum = windowSum w moved })
 
--- the movements that a window's sum stands for, the 512 of each step taken off again
-unfoldable pub windowMovement : ℕ → ℕ → Movement
-windowMovement size sum = movementOf (subℕ sum (512 * size))
-
--- c and rpm after a step with the biased movement `moved`, where the windows are as before it
-unfoldable pub cAfter : Speed → ℕ → Movement
-cAfter x moved = cond (updates shortSteps (x .short)) (windowMovement shortSteps (windowSum (x .short) moved)) (x .c)
+-- c as it is held, and rpm, after a step with the biased movement `moved`, where the windows are as before it
+unfoldable pub cAfter : Speed → ℕ → ℕ
+cAfter x moved = cond (updates shortSteps (x .short)) (windowSum (x .short) moved) (x .c)
 
 unfoldable pub rpmAfter : Bool → Speed → ℕ → ℕ
 rpmAfter fast x moved =
     cond (updates (windowSteps fast) (x .long))
-    (rpmOf fast (movementValue (windowMovement (windowSteps fast) (windowSum (x .long) moved))))
+    (rpmOf fast (unbiased (windowSteps fast) (windowSum (x .long) moved)))
     (x .rpm)
 
 unfoldable pub speedAfter : Setup → Speed → ℕ → Speed
@@ -229,7 +224,7 @@ freshSpeed = record {
   last = record { stepped = false; at = 0 };
   short = freshWindow;
   long = freshWindow;
-  c = record { negative = false; counts = 0 };
+  c = biasedC (pos 0);
   rpm = 0;
 }
 

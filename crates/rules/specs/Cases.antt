@@ -36,7 +36,7 @@ use Rattle.rules.specs.declared.Bus.{Bus}
 use Rattle.rules.specs.Words.{digit, word, bits, wordOf, bytesOf, table, storedAt, otherBit, anyWord, signedWord, differing, forced}
 use Rattle.rules.specs.Variants.{groupMode, realCount, virtualCount, andedOf}
 use Rattle.rules.specs.Counts.{ahead, holds}
-use Rattle.rules.specs.Motion.{realInput, turned, scaledPosition, machinePosition, windowSteps, tachShown, tachOverflow, rpmOf, detects, conditionsWith, conditions, faultConditions}
+use Rattle.rules.specs.Motion.{realInput, turned, scaledPosition, machinePosition, windowSteps, tachShown, tachOverflow, rpmOf, detects, conditionsWith, conditions, faultConditions, biasedC}
 use Rattle.rules.specs.Groups.{groupPosition, groupEvent, isOpen}
 use Rattle.rules.specs.Switches.{moved, pairHolds, normalHolds, pulseHolds, present, admitted, enableHolds, detectorHolds, outputWords, changedCount, answerOf}
 use Rattle.rules.specs.Cycle.{numberOf, outcomeNumber, withProgramming, errorOf}
@@ -163,7 +163,7 @@ reads independent real virtuals rpm md1 md2 = record {
   machine = record { 0 = 500 };
   real = real;
   virtuals = virtuals;
-  c = record { negative = false; counts = 0 };
+  c = biasedC (pos 0);
   rpm = rpm;
   update = true;
   md1 = md1;
@@ -308,8 +308,8 @@ ofMotion =
     -- "0, 8 or 16 real inputs and outputs. All have 16 virtual ones"
     ∷ numbers (map realCount (M8511 ∷ M8512 ∷ M8513 ∷ []) ++ map virtualCount (M8511 ∷ M8512 ∷ M8513 ∷ [])) (0 ∷ 8 ∷ 16 ∷ 16 ∷ 16 ∷ 16 ∷ [])
     -- MD1 13/14 and MD2 15/16 at 14 and 15 rpm
-    ∷ tests (map (λ (rpm : ℕ). conditions (withProgramming (freshConfiguration M8513) (noPrograms (setupBy 0 0x8000 0))) (sampleOf []) (record { negative = false; counts = 0 }) rpm false .md1) (14 ∷ 15 ∷ [])) (true ∷ false ∷ [])
-    ∷ tests (map (λ (rpm : ℕ). conditions (withProgramming (freshConfiguration M8513) (noPrograms (setupBy 0 0x8000 0))) (sampleOf []) (record { negative = false; counts = 0 }) rpm false .md2) (14 ∷ 15 ∷ [])) (false ∷ true ∷ [])
+    ∷ tests (map (λ (rpm : ℕ). conditions (withProgramming (freshConfiguration M8513) (noPrograms (setupBy 0 0x8000 0))) (sampleOf []) (biasedC (pos 0)) rpm false .md1) (14 ∷ 15 ∷ [])) (true ∷ false ∷ [])
+    ∷ tests (map (λ (rpm : ℕ). conditions (withProgramming (freshConfiguration M8513) (noPrograms (setupBy 0 0x8000 0))) (sampleOf []) (biasedC (pos 0)) rpm false .md2) (14 ∷ 15 ∷ [])) (false ∷ true ∷ [])
     ∷ []
 
 unfoldable pub ofGroups : List Case

@@ -30,7 +30,7 @@ use Rattle.rules.specs.declared.Answer.{Answer}
 use Rattle.rules.specs.Words.{table}
 use Rattle.rules.specs.Variants.{groupMode, limitSwitch}
 use Rattle.rules.specs.Counts.{ahead}
-use Rattle.rules.specs.Motion.{scaleFactor, turned, machineAt, movement, windowSteps, shortSteps, rpmOf, movementOf, conditions, faultConditions}
+use Rattle.rules.specs.Motion.{scaleFactor, turned, machineAt, movement, windowSteps, shortSteps, rpmOf, biasedC, conditions, faultConditions}
 use Rattle.rules.specs.Groups.{groupAt, dwellHolds, groupPosition, presets, edge, stops, running, groupEvent, ofGroup, noPosition}
 use Rattle.rules.specs.Switches.{timedSteps, limitOf, ownerOf, timedHolds, ruleAt, outputWords, answerOf}
 use Rattle.rules.specs.Cycle.{numberOf, outcomeNumber, isAccepted}
@@ -122,12 +122,19 @@ total (z ∷ h) = z +ℤ total h
 unfoldable pub windowTotal : ℕ → List ℤ → ℤ
 windowTotal size h = cond (ltb (length h) size) (pos 0) (total (take size (drop (length h % size) h)))
 
+-- the sum of the movements since the window's beginning, the last step whose number is a multiple of `size`
+unfoldable pub runningTotal : ℕ → List ℤ → ℤ
+runningTotal size h = total (take (length h % size) h)
+
 unfoldable pub cOf : List ℕ → ℤ
 cOf qs = windowTotal shortSteps (movements qs)
 
 -- "At every 600th (TResp 1) or 2520th step, C is the sum over that window .., and rpm = |C| × 60000 / (1024 × W), rounded half up (0 earlier)."
+unfoldable pub bigCOf : Bool → List ℕ → ℤ
+bigCOf fast qs = windowTotal (windowSteps fast) (movements qs)
+
 unfoldable pub rpmAt : Bool → List ℕ → ℕ
-rpmAt fast qs = rpmOf fast (windowTotal (windowSteps fast) (movements qs))
+rpmAt fast qs = rpmOf fast (bigCOf fast qs)
 
 -- the step is one in which rpm is updated
 unfoldable pub updateAt : Bool → List ℕ → Bool
@@ -139,7 +146,7 @@ rpmIn model l s = rpmAt (setupInForce model l .fast) (upToStep model l s)
 -- what the groups and outputs read of a step not answered 11
 unfoldable pub conditionsIn : Model → List Call → Sample → Conditions
 conditionsIn model l s =
-    conditions (configurationOf model l) s (movementOf (cOf (upToStep model l s))) (rpmIn model l s) (updateAt (setupInForce model l .fast) (upToStep model l s))
+    conditions (configurationOf model l) s (biasedC (cOf (upToStep model l s))) (rpmIn model l s) (updateAt (setupInForce model l .fast) (upToStep model l s))
 
 -- ---- A group's past
 

@@ -1,9 +1,9 @@
 -- 01, "Module and sample" and "Speed": inputs, positions, movement, rpm, tachometer, detectors, and what a step's groups and outputs read. No past.
 -- Assumes nothing.
-use Prim.Native.Nat.{ℕ, suc, _+_, _*_, _/_, _%_, _^_}
-use mathlib.Core.Bool.{Bool, true, false, cond, not, _&&_, _||_, Bool·beq}
+use Prim.Native.Nat.{ℕ, _+_, _*_, _/_, _%_, _^_}
+use mathlib.Core.Bool.{Bool, false, cond, not, _&&_, _||_, Bool·beq}
 use lib.Dec.{ltb, leb, eqb}
-use lib.IntN.{ℤ, pos, negsuc, negℤ, natAbs, subℕ, _+ℤ_, _-ℤ_}
+use lib.IntN.{ℤ, pos, natAbs, subℕ, _+ℤ_, _-ℤ_}
 use Rattle.rules.specs.declared.MachinePosition.{MachinePosition}
 use Rattle.rules.specs.declared.Detector.{Detector}
 use Rattle.rules.specs.declared.Scalars.{Scalars}
@@ -13,7 +13,6 @@ use Rattle.rules.specs.declared.Sample.{Sample}
 use Rattle.rules.specs.declared.Model.{Model}
 use Rattle.rules.specs.declared.IoType.{IoType}
 use Rattle.rules.specs.declared.IoType.the-variants.{Real, Virtual}
-use Rattle.rules.specs.declared.Movement.{Movement}
 use Rattle.rules.specs.declared.Conditions.{Conditions}
 use Rattle.rules.specs.Words.{bit, wordOf, modulo, roundHalfUp, forced}
 use Rattle.rules.specs.Variants.{modelIn, realCount, codeOf, codeNumber}
@@ -88,16 +87,16 @@ detects d rpm =
     not (eqb (d .low) 0 && eqb (d .high) 0)
     && cond (leb (d .low) (d .high)) (leb (d .low) rpm && leb rpm (d .high)) (leb rpm (d .high) || leb (d .low) rpm)
 
--- the number that a sign and a magnitude stand for, and the other way
-abbrev pub signed : Bool → ℕ → ℤ
-signed negative n = cond negative (negℤ (pos n)) (pos n)
+-- 02: "the movement sums .. are to be held in 32 bits inside". A sum of movements is held as one number, 512 added for each of its `steps` steps: the signed sum that a number stands for.
+abbrev pub unbiased : ℕ → ℕ → ℤ
+unbiased steps n = subℕ n (512 * steps)
 
-abbrev pub movementValue : Movement → ℤ
-movementValue t = signed (t .negative) (t .counts)
+-- c, "the sum of the last 120 movements": the sum that a number stands for, and the number that stands for a sum
+abbrev pub cValue : ℕ → ℤ
+cValue n = unbiased shortSteps n
 
-abbrev pub movementOf : ℤ → Movement
-movementOf (pos n) = record { negative = false; counts = n }
-movementOf (negsuc n) = record { negative = true; counts = suc n }
+abbrev pub biasedC : ℤ → ℕ
+biasedC c = natAbs (c +ℤ pos (512 * shortSteps))
 
 -- ---- What a step's groups, outputs and answer read
 
@@ -105,8 +104,8 @@ movementOf (negsuc n) = record { negative = true; counts = suc n }
 unfoldable pub realInputs : Configuration → Sample → ℕ
 realInputs g s = wordOf 0 (realInput (modelIn g) (g .programming .setup) s)
 
--- of a step at which Machine Position is `machine`, c is `c`, rpm is `rpm` and was updated or not, and the detectors are as given
-abbrev pub conditionsWith : Configuration → Sample → MachinePosition → Movement → ℕ → Bool → Bool → Bool → Conditions
+-- of a step at which Machine Position is `machine`, c is held as `c`, rpm is `rpm` and was updated or not, and the detectors are as given
+abbrev pub conditionsWith : Configuration → Sample → MachinePosition → ℕ → ℕ → Bool → Bool → Bool → Conditions
 conditionsWith g s machine c rpm update md1 md2 = record {
   top = g .programming .setup .top;
   independent = g .programming .setup .independent;
@@ -120,14 +119,14 @@ conditionsWith g s machine c rpm update md1 md2 = record {
   md2 = md2;
 }
 
--- of a step not answered 11, where c is `c` and rpm is `rpm` and was updated or not
-unfoldable pub conditions : Configuration → Sample → Movement → ℕ → Bool → Conditions
+-- of a step not answered 11, where c is held as `c` and rpm is `rpm` and was updated or not
+unfoldable pub conditions : Configuration → Sample → ℕ → ℕ → Bool → Conditions
 conditions g s c rpm update =
     conditionsWith g s (machineAt g s) c rpm update (detects (g .programming .setup .md1) rpm) (detects (g .programming .setup .md2) rpm)
 
 -- 11: "reports the Machine Position of the last step since power-up not answered 11, else 0; rpm, tach and TachOv 0; detectors .. off"
 unfoldable pub faultConditions : Configuration → Sample → MachinePosition → Conditions
-faultConditions g s last = conditionsWith g s last (movementOf (pos 0)) 0 false false false
+faultConditions g s last = conditionsWith g s last (biasedC (pos 0)) 0 false false false
 
 -- SF in force
 abbrev pub scale : Conditions → ℕ

@@ -5,7 +5,7 @@ use mathlib.Core.Bool.{Bool, true, false, cond, not, _&&_, _||_}
 use mathlib.Core.List.{List, []}
 use lib.ListN.{getD, replicate}
 use lib.Dec.{ltb, leb, eqb}
-use lib.IntN.{ℤ, pos, _-ℤ_, _*ℤ_}
+use lib.IntN.{ℤ, pos, negℤ, _-ℤ_, _*ℤ_}
 use lib.Signed.{quotZ}
 use Rattle.rules.specs.declared.GroupPosition.{GroupPosition}
 use Rattle.rules.specs.declared.Position.{Position}
@@ -29,8 +29,12 @@ use Rattle.rules.specs.declared.OutputWords.{OutputWords}
 use Rattle.rules.specs.Words.{bit, wordOf, modulo, someOf, differing, forced}
 use Rattle.rules.specs.Variants.{realCount, virtualCount, limitSwitch, andedOf}
 use Rattle.rules.specs.Counts.{ahead, holds, usedPair}
-use Rattle.rules.specs.Motion.{tachShown, tachOverflow, signed, movementValue, scale, level, enableInput}
+use Rattle.rules.specs.Motion.{tachShown, tachOverflow, cValue, scale, level, enableInput}
 use Rattle.rules.specs.Groups.{noPosition, ofGroup}
+
+-- the number that a sign and a magnitude stand for
+abbrev pub signed : Bool → ℕ → ℤ
+signed negative n = cond negative (negℤ (pos n)) (pos n)
 
 -- a, "the signed advance in tenths of a ms"
 abbrev pub advanceValue : Advance → ℤ
@@ -143,7 +147,7 @@ passes w l isopen n = admitted w isopen n && (enableHolds w (l .enable) n && det
 -- whose timed switch the time lasts or not
 unfoldable pub outputRule : Conditions → Limit → GroupPosition → Bool → Bool → ℕ → Bool
 outputRule w l position isopen lasting n =
-    switchHolds (scale w) (movementValue (w .c)) l (limitSwitch l) (switchPosition w position) lasting && passes w l isopen n
+    switchHolds (scale w) (cValue (w .c)) l (limitSwitch l) (switchPosition w position) lasting && passes w l isopen n
 
 -- the same of output n of a card, where the six groups' positions and openness are these
 unfoldable pub ruleAt : Programming → Conditions → List GroupPosition → List Bool → (ℕ → Bool) → ℕ → Bool
@@ -152,7 +156,7 @@ ruleAt p w positions isopen lasting n =
 
 -- the pair of a switch, if it is timed
 unfoldable pub timedHolds : Conditions → Limit → GroupPosition → Bool
-timedHolds w l position = pairHolds (scale w) (movementValue (w .c)) l 0 (switchPosition w position)
+timedHolds w l position = pairHolds (scale w) (cValue (w .c)) l 0 (switchPosition w position)
 
 -- the forces of an output
 abbrev pub forcedOff : Sample → ℕ → Bool

@@ -206,20 +206,13 @@ pub struct Window {
     pub sum: u32,
 }
 
-// A sum of movements, as a sign and a magnitude.
-#[repr(C)]
-pub struct Movement {
-    pub negative: bool,
-    pub counts: u32,
-}
-
-// The speed: the windows of c and of C, c, and rpm.
+// The speed: the windows of c and of C, c with the 512 of each of its 120 steps added, and rpm.
 #[repr(C)]
 pub struct Speed {
     pub last: Last,
     pub short: Window,
     pub long: Window,
-    pub c: Movement,
+    pub c: u32,
     pub rpm: u32,
 }
 
@@ -309,14 +302,14 @@ pub struct Sample {
 }
 
 // What the groups, the outputs and the answer read of a step: the scale factor less one and MType in force, Machine Position, the words of the active
-// inputs after the forces, c, rpm, whether rpm was updated, and the motion detectors.
+// inputs after the forces, c as the speed holds it, rpm, whether rpm was updated, and the motion detectors.
 pub struct Conditions {
     pub top: u16,
     pub independent: bool,
     pub machine: MachinePosition,
     pub real: u16,
     pub virtuals: u16,
-    pub c: Movement,
+    pub c: u32,
     pub rpm: u32,
     pub update: bool,
     pub md1: bool,
@@ -453,6 +446,9 @@ impl TimedState {
 }
 
 impl Speed {
+    // What is added to c: 512 for each of its 120 steps.
+    pub const C_BIAS: u32 = 61440;
+
     pub const FRESH: Speed = Speed {
         last: Last {
             stepped: false,
@@ -460,10 +456,7 @@ impl Speed {
         },
         short: Window { steps: 0, sum: 0 },
         long: Window { steps: 0, sum: 0 },
-        c: Movement {
-            negative: false,
-            counts: 0,
-        },
+        c: Speed::C_BIAS,
         rpm: 0,
     };
 }

@@ -5,12 +5,13 @@ use mathlib.Core.Bool.{Bool, true, false, cond, xor}
 use mathlib.Core.Path.{_≡_, refl, sym, ap, _∙_}
 use native.Mathlib.Nat.{zero-div, mul-zero, zero-mul, zero-mod, mod-mod, add-mod-mod}
 use native.Mathlib.Omega.{arith}
-use lib.IntN.{ℤ, pos, negsuc, negℤ, _-ℤ_, _*ℤ_}
+use lib.Dec.{ltb}
+use lib.IntN.{ℤ, pos, negsuc, negℤ, natAbs, _-ℤ_, _*ℤ_}
 use lib.Signed.{quotZ}
 use Rattle.rules.specs.Words.{modulo}
-use Rattle.rules.specs.Motion.{signed}
+use Rattle.rules.specs.Motion.{cValue}
 use Rattle.rules.specs.Counts.{ahead}
-use Rattle.rules.specs.Switches.{advanceShift, moved}
+use Rattle.rules.specs.Switches.{signed, advanceShift, moved}
 use Rattle.rules.proofs.Laws.{minus, modulo-natural, ahead-natural, ahead-up}
 use Rattle.switch.specs.Parts.{shiftCounts}
 
@@ -81,20 +82,36 @@ by-sign : (t n : ℕ) (b : Bool) → modulo (pos 0 -ℤ signed b n) (t + 1) ≡ 
 by-sign t n true = forward t n
 by-sign t n false = backward t n
 
+-- c, as a number n holds it, in sign and magnitude: n is below what was added, and how far it is from that
+abbrev pub back : ℕ → Bool
+back n = ltb n 61440
+
+abbrev pub magnitude : ℕ → ℕ
+magnitude n = natAbs (cValue n)
+
+in-signs : (n : ℕ) → cValue n ≡ signed (back n) (magnitude n)
+in-signs n = go (back n)
+  where
+    go : (b : Bool) → cond b (negsuc (61440 - suc n)) (pos (n - 61440)) ≡ signed b (natAbs (cond b (negsuc (61440 - suc n)) (pos (n - 61440))))
+    go true = refl
+    go false = refl
+
 -- what 0 moves by: against s
-pub displacement-of : (t : ℕ) (x y : Bool) (a c : ℕ) →
-    moved (t + 1) (signed x a) (signed y c) 0 ≡ cond (xor x y) (shiftCounts (t + 1) a c) (ahead (t + 1) (shiftCounts (t + 1) a c) 0)
+pub displacement-of : (t : ℕ) (x : Bool) (a n : ℕ) →
+    moved (t + 1) (signed x a) (cValue n) 0 ≡ cond (xor x (back n)) (shiftCounts (t + 1) a (magnitude n)) (ahead (t + 1) (shiftCounts (t + 1) a (magnitude n)) 0)
 unfolding moved shiftCounts
-displacement-of t x y a c = rw (shift-signed (t + 1) x y a c) (by-sign t (a * c * (t + 1) / 245760) (xor x y))
+displacement-of t x a n =
+    ap (λ (z : ℤ). modulo (pos 0 -ℤ z) (t + 1)) (ap (advanceShift (t + 1) (signed x a)) (in-signs n) ∙ shift-signed (t + 1) x (back n) a (magnitude n))
+    ∙ by-sign t (a * magnitude n * (t + 1) / 245760) (xor x (back n))
 
 same-either : (b : Bool) (n : ℕ) → cond b n n ≡ n
 same-either true n = refl
 same-either false n = refl
 
 -- without advance or travel it stays
-pub unmoved : (t : ℕ) (x y : Bool) (a c : ℕ) → a * c ≡ 0 → moved (t + 1) (signed x a) (signed y c) 0 ≡ 0
+pub unmoved : (t : ℕ) (x : Bool) (a n : ℕ) → a * magnitude n ≡ 0 → moved (t + 1) (signed x a) (cValue n) 0 ≡ 0
 unfolding shiftCounts
-unmoved t x y a c e =
-    displacement-of t x y a c
-    ∙ (let z : a * c * (t + 1) / 245760 % (t + 1) ≡ 0 = rw (e, zero-mul (t + 1)) (zero-mod (t + 1)) in
-    rw (z, ahead-up t 0 0 (omega arith) (omega arith)) (same-either (xor x y) 0))
+unmoved t x a n e =
+    displacement-of t x a n
+    ∙ (let z : a * magnitude n * (t + 1) / 245760 % (t + 1) ≡ 0 = rw (e, zero-mul (t + 1)) (zero-mod (t + 1)) in
+    rw (z, ahead-up t 0 0 (omega arith) (omega arith)) (same-either (xor x (back n)) 0))

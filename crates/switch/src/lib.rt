@@ -5,14 +5,14 @@ ghost use mathlib.Core.Path.{_≡_};
 ghost use Prim.Native.Nat.{_+_};
 ghost use lib.ListN.{getD};
 ghost use Rattle.rules.specs.Variants.{limitSwitch};
-ghost use Rattle.rules.specs.Motion.{movementValue};
+ghost use Rattle.rules.specs.Motion.{cValue};
 ghost use Rattle.rules.specs.Switches.{advanceValue, moved, countAt, pairHolds, normalHolds, pulseStart, pulseOn, pulseHolds, switchHolds};
 ghost use Rattle.rules.specs.Card.{timedAfter};
 ghost use Rattle.switch.specs.Parts.{shiftCounts, pairAt, somePair, lastPulse, timedLeft};
 use rules::Advance;
 use rules::Limit;
-use rules::Movement;
 use rules::Position;
+use rules::Speed;
 use rules::Switch;
 use rules::TimedState;
 use rules::variants::switch_of;
@@ -30,17 +30,18 @@ fn shift_counts(top: u16, tenths: u16, counts: u32) -> u16
 }
 
 // What each setpoint of a switch moves by at c: −s mod SF. Like signs make s positive.
-pub fn displacement(top: u16, a: Advance, c: Movement) -> u16
-    ensures { λ r. ⌜ r ≡ moved (top + 1) (advanceValue a) (movementValue c) 0 ⌝ }
+pub fn displacement(top: u16, a: Advance, c: u32) -> u16
+    ensures { λ r. ⌜ r ≡ moved (top + 1) (advanceValue a) (cValue c) 0 ⌝ }
 {
     if a.tenths == 0 {
         return 0;
     }
-    if c.counts == 0 {
+    if c == Speed::C_BIAS {
         return 0;
     }
-    let s = shift_counts(top, a.tenths, c.counts);
-    if a.negative != c.negative {
+    let s = shift_counts(top, a.tenths, counts::apart(c, Speed::C_BIAS));
+    let back = c < Speed::C_BIAS;
+    if a.negative != back {
         return s;
     }
     counts::ahead(top, s, 0)
@@ -112,8 +113,8 @@ fn some_pair(top: u16, onmove: u16, offmove: u16, setpoints: [u16; 16], p: u16) 
 }
 
 // Pair k of a switch holds at c.
-pub fn pair_holds(top: u16, c: Movement, l: Limit, k: u16, p: Position) -> bool
-    ensures { λ r. ⌜ r ≡ pairHolds (top + 1) (movementValue c) l k p ⌝ }
+pub fn pair_holds(top: u16, c: u32, l: Limit, k: u16, p: Position) -> bool
+    ensures { λ r. ⌜ r ≡ pairHolds (top + 1) (cValue c) l k p ⌝ }
 {
     let s = l.setpoints;
     let i = 2 * k as usize;
@@ -130,8 +131,8 @@ pub fn pair_holds(top: u16, c: Movement, l: Limit, k: u16, p: Position) -> bool
 }
 
 // Normal: some used pair holds. The displacements are worked out once for all its pairs.
-pub fn normal_holds(top: u16, c: Movement, l: Limit, p: Position) -> bool
-    ensures { λ r. ⌜ r ≡ normalHolds (top + 1) (movementValue c) l p ⌝ }
+pub fn normal_holds(top: u16, c: u32, l: Limit, p: Position) -> bool
+    ensures { λ r. ⌜ r ≡ normalHolds (top + 1) (cValue c) l p ⌝ }
 {
     let s = l.setpoints;
     let onmove = displacement(top, l.onadvance, c);
@@ -181,8 +182,8 @@ pub fn pulse_on(r: u16, q: u16, k: u16, at: u16) -> bool
 }
 
 // A pulse switch at c: R from the unmoved pair, the train from the ON setpoint moved by the ON advance.
-fn pulse_holds(top: u16, c: Movement, l: Limit, q: u16, k: u16, p: Position) -> bool
-    ensures { λ b. ⌜ b ≡ pulseHolds (top + 1) (movementValue c) l q k p ⌝ }
+fn pulse_holds(top: u16, c: u32, l: Limit, q: u16, k: u16, p: Position) -> bool
+    ensures { λ b. ⌜ b ≡ pulseHolds (top + 1) (cValue c) l q k p ⌝ }
 {
     let s = l.setpoints;
     let on = s[0];
@@ -200,8 +201,8 @@ fn pulse_holds(top: u16, c: Movement, l: Limit, q: u16, k: u16, p: Position) -> 
 }
 
 // A switch holds. `lasting` says of a timed one that its time has not run out.
-pub fn switch_holds(top: u16, c: Movement, l: Limit, p: Position, lasting: bool) -> bool
-    ensures { λ r. ⌜ r ≡ switchHolds (top + 1) (movementValue c) l (limitSwitch l) p lasting ⌝ }
+pub fn switch_holds(top: u16, c: u32, l: Limit, p: Position, lasting: bool) -> bool
+    ensures { λ r. ⌜ r ≡ switchHolds (top + 1) (cValue c) l (limitSwitch l) p lasting ⌝ }
 {
     let s = switch_of(l.action);
     match s {

@@ -49,8 +49,7 @@ plain_structs! {
     }
     struct Last { stepped: bool, at: u16, }
     struct Window { steps: u16, sum: u32, }
-    struct Movement { negative: bool, counts: u32, }
-    struct Speed { last: Last, shortwindow: Window, longwindow: Window, c: Movement, rpm: u32, }
+    struct Speed { last: Last, shortwindow: Window, longwindow: Window, c: u32, rpm: u32, }
     struct GroupState {
         level: bool, first: bool, held: bool, shift: u16,
         taken: bool, begun: bool, qualified: bool, opened: bool,

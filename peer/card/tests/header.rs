@@ -5,8 +5,8 @@ mod host;
 
 use card_loop::layout::{
     Acknowledges, Advance, Answer, Bus, Byte, Configuration, Detector, Errors, Group, GroupState,
-    Kept, Last, Limit, Module, Movement, Pair, Programming, Sample, Scalars, Setup, Shown,
-    SinceStart, Speed, State, Switch, TimedState, Window,
+    Kept, Last, Limit, Module, Pair, Programming, Sample, Scalars, Setup, Shown, SinceStart,
+    Speed, State, Switch, TimedState, Window,
 };
 
 /// What a C program of this folder prints.
@@ -34,7 +34,6 @@ fn c_lays_the_structs_out_as_rust_does() {
         ("configuration", Configuration::places()),
         ("last", Last::places()),
         ("window", Window::places()),
-        ("movement", Movement::places()),
         ("speed", Speed::places()),
         ("group_state", GroupState::places()),
         ("timed_state", TimedState::places()),

@@ -306,8 +306,12 @@ fn the_programming_is_read_where_it_lies() {
         }
     );
     assert_eq!(
-        (x.speed.shortwindow.steps, x.speed.longwindow.sum),
-        (1, 512)
+        (
+            x.speed.shortwindow.steps,
+            x.speed.longwindow.sum,
+            x.speed.c
+        ),
+        (1, 512, 61440)
     );
     // Currents and active states are 0, so the real inputs are active: groups 2 and 3, in Modes 1 and 2, take their edge and stand at their presets.
     assert_eq!(x.positions, [517, 50, 0, 530, 540, 550]);

@@ -2,7 +2,7 @@
 use mathlib.Core.Path.{sym}
 use borrow.Author.Needs.{needs}
 use Rattle.rules.specs.Card.{biasedMovement}
-use Rattle.motion.proofs.Laws.{biased-natural}
+use Rattle.rules.proofs.Laws.{biased-natural}
 use Rattle.motion.proofs.biased_movement.Statement.{statement}
 use Rattle.motion.proofs.biased_movement.Tie as tie
 

@@ -11,18 +11,15 @@ updates-requires c κs = search needs
 window-sum-requires : tie.Need-window-sum-requires
 window-sum-requires c κs = search needs
 
-window-movement-requires : tie.Need-window-movement-requires
-window-movement-requires c κs = search needs
-
 returns : tie.Need-returns
 unfolding cAfter
 returns c =
-    rw (sym (c .before .before .before .updates .ensures) ∙ c .before .before .if1 .taken, c .window-movement .ensures, c .before .window-sum .ensures)
+    rw (sym (c .before .before .updates .ensures) ∙ c .before .if1 .taken, c .window-sum .ensures)
 
 returns-2 : tie.Need-returns-2
 unfolding cAfter
-returns-2 c = rw (sym (c .before .before .updates .ensures) ∙ c .before .if1 .left)
+returns-2 c = rw (sym (c .before .updates .ensures) ∙ c .if1 .left)
 
 pub c-after-spec : {M : Type 1} → statement M
 c-after-spec =
-    tie.close (tie.spec updates-requires window-sum-requires window-movement-requires returns returns-2)
+    tie.close (tie.spec updates-requires window-sum-requires returns returns-2)

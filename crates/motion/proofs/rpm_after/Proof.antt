@@ -1,8 +1,8 @@
 -- `motion::rpm_after` meets its contract: rpm goes by the magnitude of C. Assumes nothing.
 use mathlib.Core.Path.{sym, _∙_}
 use borrow.Author.Needs.{needs}
+use Rattle.rules.specs.Motion.{rpmOf}
 use Rattle.rules.specs.Card.{rpmAfter}
-use Rattle.motion.proofs.Laws.{rpm-movement}
 use Rattle.motion.proofs.rpm_after.Statement.{statement}
 use Rattle.motion.proofs.rpm_after.Tie as tie
 
@@ -12,24 +12,29 @@ window-steps-requires c κs = search needs
 updates-requires : tie.Need-updates-requires
 updates-requires c κs = search needs
 
+cast-added : tie.Need-cast-added
+cast-added c = search needs
+
+mul-added : tie.Need-mul-added
+mul-added c = search needs
+
 window-sum-requires : tie.Need-window-sum-requires
 window-sum-requires c κs = search needs
 
-window-movement-requires : tie.Need-window-movement-requires
-window-movement-requires c κs = search needs
+apart-requires : tie.Need-apart-requires
+apart-requires c κs = search needs
 
 rpm-of-requires : tie.Need-rpm-of-requires
 rpm-of-requires c κs = search needs
 
 returns : tie.Need-returns
-unfolding rpmAfter
+unfolding rpmAfter rpmOf
 returns c =
     rw (
       ← c .before .before .before .before .before .before .window-steps .ensures,
       sym (c .before .before .before .before .updates .ensures) ∙ c .before .before .before .if1 .taken,
       ← c .before .before .window-sum .ensures,
-      ← c .before .window-movement .ensures,
-      rpm-movement _ (c .before .window-movement .result),
+      ← c .before .apart .ensures,
     )
     (c .rpm-of .ensures)
 
@@ -44,8 +49,10 @@ rpm-after-spec =
     (tie.spec
     window-steps-requires
     updates-requires
+    cast-added
+    mul-added
     window-sum-requires
-    window-movement-requires
+    apart-requires
     rpm-of-requires
     returns
     returns-2)

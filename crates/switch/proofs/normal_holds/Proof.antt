@@ -1,6 +1,6 @@
 -- `switch::normal_holds` meets its contract: both displacements, then the loop. Assumes nothing.
 use Rattle.switch.proofs.Pairs.{some-moved}
-use Rattle.rules.specs.Motion.{movementValue}
+use Rattle.rules.specs.Motion.{cValue}
 use borrow.Author.Needs.{needs}
 use Rattle.switch.proofs.normal_holds.Statement.{statement}
 use Rattle.switch.proofs.normal_holds.Tie as tie
@@ -20,7 +20,7 @@ some-pair-requires c κs = search needs
 returns : tie.Need-returns
 returns c =
     let x = c .before .before .before .before .before .args in
-    rw (some-moved (x .top) (movementValue (x .c)) (x .l) (x .p), c .some-pair .ensures, c .before .count-at .ensures, c .before .before .displacement2 .ensures, c .before .before .before .displacement .ensures)
+    rw (some-moved (x .top) (cValue (x .c)) (x .l) (x .p), c .some-pair .ensures, c .before .count-at .ensures, c .before .before .displacement2 .ensures, c .before .before .before .displacement .ensures)
 
 pub normal-holds-spec : {M : Type 1} → statement M
 normal-holds-spec =

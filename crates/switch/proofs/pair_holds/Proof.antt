@@ -1,6 +1,6 @@
 -- `switch::pair_holds` meets its contract: both setpoints by their displacements. Assumes nothing.
 use Rattle.switch.proofs.Pairs.{pair-moved}
-use Rattle.rules.specs.Motion.{movementValue}
+use Rattle.rules.specs.Motion.{cValue}
 use borrow.Author.Needs.{needs}
 use Rattle.switch.proofs.pair_holds.Statement.{statement}
 use Rattle.switch.proofs.pair_holds.Tie as tie
@@ -34,7 +34,7 @@ returns c =
     let d = c .before .before .before .before in
     let x = d .before .before .before .args in
     rw (
-      pair-moved (x .top) (movementValue (x .c)) (x .l) (x .k) (x .p),
+      pair-moved (x .top) (cValue (x .c)) (x .l) (x .k) (x .p),
       c .pair-at .ensures,
       c .before .count-at .ensures,
       c .before .before .setpoint2 .ensures,

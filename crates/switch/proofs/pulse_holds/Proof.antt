@@ -1,7 +1,7 @@
 -- `switch::pulse_holds` meets its contract: the train from the moved ON setpoint, where the pair is used. Assumes nothing.
 use Rattle.switch.proofs.Advance.{moved-by}
 use Rattle.rules.specs.Switches.{advanceValue, moved, onSetpoint, pulseHolds}
-use Rattle.rules.specs.Motion.{movementValue}
+use Rattle.rules.specs.Motion.{cValue}
 use Prim.Native.Nat.{_+_}
 use mathlib.Core.Path.{_≡_, sym, _∙_}
 use borrow.Author.Needs.{needs}
@@ -38,11 +38,11 @@ pulse-on-requires c κs = search needs
 -- where the train starts
 start : (c : tie.After-sum) →
     (let x = c .before .before .before .before .before .args in
-    c .sum .result ≡ moved (x .top + 1) (advanceValue (x .l .onadvance)) (movementValue (x .c)) (onSetpoint (x .l) 0))
+    c .sum .result ≡ moved (x .top + 1) (advanceValue (x .l .onadvance)) (cValue (x .c)) (onSetpoint (x .l) 0))
 start c =
     let x = c .before .before .before .before .before .args in
     rw (c .sum .ensures, c .before .displacement .ensures)
-    (sym (moved-by (x .top) (advanceValue (x .l .onadvance)) (movementValue (x .c)) (onSetpoint (x .l) 0)))
+    (sym (moved-by (x .top) (advanceValue (x .l .onadvance)) (cValue (x .c)) (onSetpoint (x .l) 0)))
 
 returns : tie.Need-returns
 unfolding pulseHolds

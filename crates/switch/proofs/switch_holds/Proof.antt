@@ -1,6 +1,6 @@
 -- `switch::switch_holds` meets its contract: by the switch's type. Assumes nothing.
 use Rattle.rules.specs.Variants.{limitSwitch}
-use Rattle.rules.specs.Motion.{movementValue}
+use Rattle.rules.specs.Motion.{cValue}
 use Rattle.rules.specs.declared.Switch.{Switch}
 use mathlib.Core.Path.{_≡_, sym, ap, _∙_}
 use mathlib.Core.Bool.{Bool, and-true, and-false}
@@ -13,7 +13,7 @@ use Rattle.switch.proofs.switch_holds.Tie as tie
 -- the rule at the type that the match found
 at-type : tie.Start → Switch → Bool
 at-type c s =
-    switchHolds (c .args .top + 1) (movementValue (c .args .c)) (c .args .l) s (c .args .p) (c .args .lasting)
+    switchHolds (c .args .top + 1) (cValue (c .args .c)) (c .args .l) s (c .args .p) (c .args .lasting)
 
 of-type : (c : tie.After-switch-of) {s : Switch} → c .switch-of .result ≡ s → at-type (c .before) (limitSwitch (c .before .args .l)) ≡ at-type (c .before) s
 of-type c e = ap (at-type (c .before)) (sym (c .switch-of .ensures) ∙ e)

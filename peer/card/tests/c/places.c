@@ -95,10 +95,6 @@ int main(void) {
     FIELD(chimneyrye_window, steps);
     FIELD(chimneyrye_window, sum);
     puts("");
-    printf("movement %zu", sizeof(chimneyrye_movement));
-    FIELD(chimneyrye_movement, negative);
-    FIELD(chimneyrye_movement, counts);
-    puts("");
     printf("speed %zu", sizeof(chimneyrye_speed));
     FIELD(chimneyrye_speed, last);
     FIELD(chimneyrye_speed, shortwindow);

@@ -22,6 +22,7 @@ pub mod Refusals
 pub mod FilesLeft
 pub mod RefusedLeaves
 pub mod Faults
+pub mod Sums
 pub mod Reachable
 pub mod Reports
 pub mod Runs

@@ -1,4 +1,5 @@
--- Every module that a card can hold: for each list of calls from power-up no sum or count of the state machine runs over, setpoints, offsets, presets and
+-- Every module that a card can hold: for each list of calls from power-up no sum or count of the state machine runs over, the movement sums and the scaled
+-- position's product are within 02's bounds, setpoints, offsets, presets and
 -- shifts are below SF, and what the checks bound is within its bounds. So what Card says of other modules (a sum modulo 2^32) no card meets. Assumes nothing.
 use Prim.Native.Nat.{ℕ, _+_, _-_, _*_, _^_, _≤_, _<_}
 use mathlib.Core.Path.{_≡_}
@@ -8,6 +9,7 @@ use native.Mathlib.Nat.{mod-eq-of-lt, mul-le-mul-right}
 use native.Mathlib.Omega.{arith}
 use lib.Dec.{ltb, lit<, lit≤}
 use lib.Pow.{pow-pos}
+use lib.IntN.{ℤ}
 use borrow.Author.Tests.{ltb-false, lt-ltb, le-ltb}
 use Rattle.rules.specs.declared.Model.{Model}
 use Rattle.rules.specs.declared.Switch.{Switch}
@@ -15,20 +17,22 @@ use Rattle.rules.specs.declared.Switch.the-variants.{Pulse, Timed}
 use Rattle.rules.specs.declared.Programming.{Programming}
 use Rattle.rules.specs.declared.Scalars.{Scalars}
 use Rattle.rules.specs.declared.Setup.{Setup}
+use Rattle.rules.specs.declared.Configuration.{Configuration}
 use Rattle.rules.specs.declared.Window.{Window}
 use Rattle.rules.specs.declared.SinceStart.{SinceStart}
 use Rattle.rules.specs.declared.Shown.{Shown}
 use Rattle.rules.specs.declared.Module.{Module}
 use Rattle.rules.specs.declared.Sample.{Sample}
-use Rattle.rules.specs.Motion.{realInput, scaleFactor, turned, scaledPosition, machinePosition, machineAt, windowSteps, shortSteps, tachValue, tachShown, realInputs, conditions, faultConditions}
+use Rattle.rules.specs.Motion.{realInput, scaleFactor, turned, scaledPosition, machinePosition, machineAt, windowSteps, shortSteps, unbiased, cValue, tachValue, tachShown, realInputs, conditions, faultConditions}
 use Rattle.rules.specs.Variants.{modelIn, realCount, limitSwitch}
 use Rattle.rules.specs.Counts.{ahead, usedPair}
 use Rattle.rules.specs.Switches.{onSetpoint, offSetpoint, timedSteps, present, limitOf, outputOn, outputWords, answerOf}
 use Rattle.rules.specs.Words.{wordOf}
 use Rattle.rules.specs.Bus.{shownBy}
-use Rattle.rules.specs.Calls.{Call, Step, FileCall, NudgeCall, ByteCall, sound}
+use Rattle.rules.specs.Calls.{Call, Step, FileCall, NudgeCall, ByteCall, rawMost, sound}
 use Rattle.rules.specs.Card.{biasedMovement, windowSum, groupStateAt, timedAt}
 use Rattle.rules.specs.Run.{run}
+use Rattle.rules.specs.Sums.{leastBigC, mostBigC, leastC, mostC, mostProduct}
 use Rattle.rules.specs.History.{configurationOf, setupInForce, conditionsIn, outputsIn, lastPosition, expectedAnswer, sinceModuleStart, sinceGroupStart, sinceLimitStart, lastTaken, pastOf, movements, heldAt}
 use Rattle.rules.specs.BusHistory.{lastShown}
 use Rattle.rules.proofs.Laws.{mod-below}
@@ -37,19 +41,24 @@ use Rattle.rules.proofs.Past.{by}
 use Rattle.rules.proofs.GroupPast.{shift-below}
 use Rattle.rules.proofs.Timed.{passedOf}
 use Rattle.rules.proofs.Windows.{steps-below, sum-fits, biased-below, long-some, long-small}
+use Rattle.rules.proofs.Sums.{Between, sums-within, sums-held, product-within, last-raw-below}
 use Rattle.rules.proofs.Ranges.{SwitchWithin, Within, ranges}
 use Rattle.rules.proofs.Programs.{model-is}
 use Rattle.rules.proofs.Agreement.{configuration-is, agrees}
 use Rattle.rules.proofs.RackBus.{shown-is}
+use Rattle.rules.proofs.Theorem.{raw-is}
 
--- a window of so many steps: its count is below them, and its sum with a movement more, whatever q comes, fits 32 bits
-pub record WindowWithin (size : ℕ) (w : Window) (next : ℕ → ℕ) : Type 0 where
+-- a window of so many steps: its count is below them, the sum that its number stands for is from a to b, and the number with a movement more, whatever q comes,
+-- fits 32 bits
+pub record WindowWithin (size : ℕ) (a b : ℤ) (w : Window) (next : ℕ → ℕ) : Type 0 where
   pub steps : w .steps < size
+  pub value : Between a b (unbiased (w .steps) (w .sum))
   pub sum : (q : ℕ) → w .sum + next q < 2 ^ 32
 
 pub record StateWithin (p : Programming) (x : SinceStart) : Type 0 where
-  pub short : WindowWithin shortSteps (x .speed .short) (biasedMovement (x .speed .last))
-  pub long : WindowWithin (windowSteps (p .setup .fast)) (x .speed .long) (biasedMovement (x .speed .last))
+  pub short : WindowWithin shortSteps leastC mostC (x .speed .short) (biasedMovement (x .speed .last))
+  pub long : WindowWithin (windowSteps (p .setup .fast)) leastBigC mostBigC (x .speed .long) (biasedMovement (x .speed .last))
+  pub c : Between leastC mostC (cValue (x .speed .c))
   pub shift : (n : ℕ) → n < 6 → groupStateAt x n .shift < scaleFactor (p .setup)
   pub left : (n t : ℕ) → n < 32 → limitSwitch (limitOf p n) ≡ Timed t → timedAt x n .left ≤ timedSteps t
 
@@ -61,15 +70,21 @@ pub record ShownWithin (model : Model) (x : Shown) : Type 0 where
   pub virtuals : x .virtuals < 2 ^ 16
   pub inputs : x .inputs < 2 ^ realCount model
 
+-- q × SF: of every raw position that is not answered 11, of which the last step's is one
+pub record PositionWithin (g : Configuration) : Type 0 where
+  pub raw : g .raw ≤ rawMost
+  pub product : (raw : ℕ) → raw ≤ rawMost → turned (g .programming .setup .reversed) raw * scaleFactor (g .programming .setup) ≤ mostProduct
+
 pub record ModuleWithin (x : Module) : Type 0 where
   pub programming : Within (x .configuration .programming)
+  pub position : PositionWithin (x .configuration)
   pub state : StateWithin (x .configuration .programming) (x .state .since)
   pub shown : ShownWithin (modelIn (x .configuration)) (x .state .kept .shown)
 
 -- where the sum fits, `windowSum` is the plain sum
-pub plain-sum : (size : ℕ) (w : Window) (next : ℕ → ℕ) → WindowWithin size w next → (q : ℕ) → windowSum w (next q) ≡ w .sum + next q
+pub plain-sum : (size : ℕ) (a b : ℤ) (w : Window) (next : ℕ → ℕ) → WindowWithin size a b w next → (q : ℕ) → windowSum w (next q) ≡ w .sum + next q
 unfolding windowSum
-plain-sum size w next k q = mod-eq-of-lt (k .sum q)
+plain-sum size a b w next k q = mod-eq-of-lt (k .sum q)
 
 left-below : (n passed : ℕ) (held : Bool) → cond held (n - passed) 0 ≤ n
 left-below n passed true = omega arith
@@ -78,19 +93,24 @@ left-below n passed false = omega arith
 state-within : (model : Model) (l : List Call) → StateWithin (configurationOf model l .programming) (run model l .state .since)
 state-within model l =
     let k = agrees model l in
+    let h = sums-held model l in
+    let i = sums-within model l in
     let p : Programming = configurationOf model l .programming in
     let x : SinceStart = run model l .state .since in
     record {
       short = record {
         steps = steps-below shortSteps (lit< tt) (lit≤ tt) (movements (sinceModuleStart model l)) (x .speed .short) (k .speed .short);
+        value = rw (h .short) (i .short);
         sum = λ q. sum-fits shortSteps (lit< tt) (lit≤ tt) (movements (sinceModuleStart model l)) (x .speed .short) (k .speed .short)
             (biasedMovement (x .speed .last) q) (biased-below (x .speed .last) q);
       };
       long = record {
         steps = steps-below (windowSteps (p .setup .fast)) (long-some _) (long-small _) (movements (sinceModuleStart model l)) (x .speed .long) (k .speed .long);
+        value = rw (h .long) (i .long (p .setup .fast));
         sum = λ q. sum-fits (windowSteps (p .setup .fast)) (long-some _) (long-small _) (movements (sinceModuleStart model l)) (x .speed .long) (k .speed .long)
             (biasedMovement (x .speed .last) q) (biased-below (x .speed .last) q);
       };
+      c = rw (h .c) (i .c);
       shift = λ n b. rw (k .groups n b .shift) (shift-below (p .setup .top) (lastTaken (pastOf (sinceGroupStart model l n))));
       left = λ n t b e. rw (k .timed n b t e .left) (left-below (timedSteps t) (passedOf (sinceLimitStart model l n)) (heldAt (sinceLimitStart model l n)));
     }
@@ -153,6 +173,7 @@ shown-within model (ByteCall a ∷ l) = shown-within model l
 pub reachable : (model : Model) (l : List Call) → ModuleWithin (run model l)
 reachable model l = record {
   programming = rw (configuration-is model l) (ranges model l);
+  position = rw (configuration-is model l) (record { raw = rw (raw-is model l) (last-raw-below model l); product = product-within model l });
   state = rw (configuration-is model l) (state-within model l);
   shown = rw (configuration-is model l, model-is model l, shown-is model l) (shown-within model l);
 }

@@ -18,6 +18,7 @@ pub mod Quant
 pub mod History
 pub mod BusHistory
 pub mod Run
+pub mod Sums
 pub mod Trace
 pub mod Reports
 pub mod Cases

@@ -24,6 +24,7 @@ pub mod RefusedLeaves
 pub mod Faults
 pub mod Sums
 pub mod Reachable
+pub mod Extremes
 pub mod Reports
 pub mod Runs
 pub mod Statuses

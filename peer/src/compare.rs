@@ -9,8 +9,8 @@ use std::thread;
 use std::time::{Duration, Instant};
 
 use crate::generate::{
-    byte_list, cycle_list, damaged_trace, frame_list, press_list, step_list, whole_trace, CallList,
-    StopPresses, USUAL_SAMPLES, USUAL_STEPS,
+    byte_list, cycle_list, damaged_trace, extreme_list, frame_list, press_list, step_list,
+    whole_trace, CallList, Extremes, StopPresses, USUAL_SAMPLES, USUAL_STEPS,
 };
 
 /// Inputs compared at the same time.
@@ -26,6 +26,7 @@ pub enum InputKind {
     Cycles,
     Steps,
     Presses,
+    Extremes,
     Bytes,
     Frames,
     Traces,
@@ -38,6 +39,7 @@ impl InputKind {
             InputKind::Cycles,
             InputKind::Steps,
             InputKind::Presses,
+            InputKind::Extremes,
             InputKind::Bytes,
             InputKind::Frames,
             InputKind::Traces,
@@ -52,6 +54,7 @@ impl InputKind {
             InputKind::Cycles => "cycles",
             InputKind::Steps => "steps",
             InputKind::Presses => "presses",
+            InputKind::Extremes => "extremes",
             InputKind::Bytes => "bytes",
             InputKind::Frames => "frames",
             InputKind::Traces => "traces",
@@ -64,6 +67,7 @@ impl InputKind {
             InputKind::Cycles => Input::of_list(&cycle_list(seed)),
             InputKind::Steps => Input::of_list(&step_list(seed, USUAL_STEPS)),
             InputKind::Presses => Input::of_presses(&press_list(seed)),
+            InputKind::Extremes => Input::of_extremes(&extreme_list(seed)),
             InputKind::Bytes => Input::of_list(&byte_list(seed)),
             InputKind::Frames => Input::of_list(&frame_list(seed)),
             InputKind::Traces => Input::of_trace(whole_trace(seed, USUAL_SAMPLES)),
@@ -77,8 +81,9 @@ struct Input {
     /// Lines that must come out of a list.
     lines: Option<usize>,
     /// First Cycle presses in the steps of stops, where the lists are made
-    /// for them.
+    /// for them; likewise the ends of C.
     presses: StopPresses,
+    extremes: Extremes,
 }
 
 impl Input {
@@ -87,6 +92,7 @@ impl Input {
             bytes: list.bytes().into(),
             lines: Some(list.lines()),
             presses: StopPresses::default(),
+            extremes: Extremes::default(),
         }
     }
 
@@ -97,11 +103,19 @@ impl Input {
         }
     }
 
+    fn of_extremes(list: &CallList) -> Input {
+        Input {
+            extremes: Extremes::of_list(list),
+            ..Input::of_list(list)
+        }
+    }
+
     fn of_trace(bytes: Vec<u8>) -> Input {
         Input {
             bytes: bytes.into(),
             lines: None,
             presses: StopPresses::default(),
+            extremes: Extremes::default(),
         }
     }
 }
@@ -118,19 +132,25 @@ pub struct Totals {
     pub byte_accesses: u64,
     /// What the lists of presses have of them.
     pub presses: StopPresses,
+    /// What the lists of extremes have of them.
+    pub extremes: Extremes,
     /// Lists on which the programs differed or one of them failed.
     pub differences: u64,
 }
 
 impl Totals {
-    /// The last line of a comparison; it counts byte accesses, or presses in
-    /// the steps of stops, where the lists are made for them.
+    /// The last line of a comparison; it counts byte accesses, presses in the
+    /// steps of stops or ends of C, where the lists are made for them.
     pub fn line(&self, kind: InputKind) -> String {
         let counted = match kind {
             InputKind::Bytes => format!(", {} byte accesses", self.byte_accesses),
             InputKind::Presses => {
                 let StopPresses { steps, counted } = self.presses;
                 format!(", {steps} presses in stop steps, {counted} of them counted")
+            }
+            InputKind::Extremes => {
+                let Extremes { least, greatest } = self.extremes;
+                format!(", {least} windows at the least C, {greatest} at the greatest")
             }
             _ => String::new(),
         };
@@ -147,6 +167,8 @@ impl Totals {
         self.byte_accesses += result.byte_accesses;
         self.presses.steps += result.presses.steps;
         self.presses.counted += result.presses.counted;
+        self.extremes.least += result.extremes.least;
+        self.extremes.greatest += result.extremes.greatest;
         self.differences += u64::from(result.difference.is_some());
     }
 }
@@ -156,6 +178,7 @@ struct ListResult {
     steps: u64,
     byte_accesses: u64,
     presses: StopPresses,
+    extremes: Extremes,
     difference: Option<String>,
 }
 
@@ -214,6 +237,7 @@ impl Programs<'_> {
             steps: count(is_step),
             byte_accesses: count(is_byte_access),
             presses: input.presses,
+            extremes: input.extremes,
             difference: self
                 .difference(&outputs, input.lines)
                 .map(|difference| format!("{} seed {seed}: {difference}", kind.name())),

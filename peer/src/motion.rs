@@ -134,6 +134,8 @@ pub struct Motion {
     speed_steps: u32,
     /// c, the sum of 120 movements at the last update.
     pub c: i32,
+    /// C, the sum of the window of the speed at the last update.
+    pub big_c: i32,
     pub reading: Reading,
 }
 
@@ -147,6 +149,7 @@ impl Motion {
             speed_sum: 0,
             speed_steps: 0,
             c: 0,
+            big_c: 0,
             reading: Reading::at(0, setup),
         }
     }
@@ -182,12 +185,40 @@ impl Motion {
         if self.speed_steps < window_ms * STEPS_PER_MS {
             return false;
         }
-        let rpm = rpm(self.speed_sum, window_ms);
+        self.big_c = self.speed_sum;
+        let rpm = rpm(self.big_c, window_ms);
         if rpm != self.reading.rpm {
             self.reading = Reading::at(rpm, setup);
         }
         self.speed_sum = 0;
         self.speed_steps = 0;
         rpm == 0
+    }
+}
+
+#[cfg(test)]
+mod tests {
+    use super::*;
+    use crate::module::Module;
+
+    /// c and C after so many steps, each so many counts on from the one
+    /// before.
+    fn sums(by: u32, steps: u32) -> (i32, i32) {
+        let setup = Module::DEFAULT_SETUP;
+        let mut motion = Motion::start(&setup);
+        for step in 0..steps {
+            motion.step((step * by % 1024) as u16, &setup);
+        }
+        (motion.c, motion.big_c)
+    }
+
+    #[test]
+    fn movement_sums_reach_both_ends_in_the_second_window() {
+        assert_eq!(sums(512, 120), (-60_928, 0));
+        assert_eq!(sums(512, 2520), (-61_440, -1_289_728));
+        assert_eq!(sums(512, 5040), (-61_440, -1_290_240));
+        assert_eq!(sums(511, 120), (60_809, 0));
+        assert_eq!(sums(511, 2520), (61_320, 1_287_209));
+        assert_eq!(sums(511, 5040), (61_320, 1_287_720));
     }
 }

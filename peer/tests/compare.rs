@@ -7,7 +7,7 @@ use std::time::{Duration, Instant};
 
 use common::{run_program, run_with_arguments};
 use peer::compare::{InputKind, Programs};
-use peer::generate::{press_list, StopPresses};
+use peer::generate::{extreme_list, press_list, Extremes, StopPresses};
 
 const REPLAY: &str = env!("CARGO_BIN_EXE_replay");
 const CAMRUN: &str = env!("CARGO_BIN_EXE_camrun");
@@ -119,6 +119,26 @@ fn presses_in_stop_steps_are_counted() {
         "{text}"
     );
     assert!(counted > 50);
+}
+
+/// Likewise.
+#[test]
+fn windows_at_the_ends_of_c_are_counted() {
+    let output = compare(&["extremes", "10", "1", REPLAY, REPLAY]);
+    assert_eq!(output.status.code(), Some(0));
+    let extremes: Vec<Extremes> = (1..=10)
+        .map(|seed| Extremes::of_list(&extreme_list(seed)))
+        .collect();
+    let least: u64 = extremes.iter().map(|extremes| extremes.least).sum();
+    let greatest: u64 = extremes.iter().map(|extremes| extremes.greatest).sum();
+    let text = text(&output);
+    let end =
+        format!(" {least} windows at the least C, {greatest} at the greatest, 0 differences\n");
+    assert!(
+        text.starts_with("compared 10 lists, ") && text.ends_with(&end),
+        "{text}"
+    );
+    assert!(least > 3 && greatest > 3);
 }
 
 /// The replay program's lines for a list.

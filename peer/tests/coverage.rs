@@ -4,7 +4,7 @@
 use std::collections::BTreeMap;
 
 use peer::generate::{
-    byte_list, cycle_list, frame_list, press_list, step_list, CallList, USUAL_STEPS,
+    byte_list, cycle_list, extreme_list, frame_list, press_list, step_list, CallList, USUAL_STEPS,
 };
 use peer::replay;
 
@@ -191,7 +191,7 @@ fn other_lists_have_byte_accesses() {
 
 #[test]
 fn a_seed_gives_one_list_and_another_seed_another() {
-    for list in [cycle_list, frame_list, byte_list, press_list] {
+    for list in [cycle_list, frame_list, byte_list, press_list, extreme_list] {
         assert_eq!(list(7), list(7));
         assert_ne!(list(7).bytes(), list(8).bytes());
     }
@@ -216,5 +216,6 @@ fn every_call_is_answered() {
     }
     for seed in 0..10 {
         assert_answered(&press_list(seed));
+        assert_answered(&extreme_list(seed));
     }
 }

@@ -55,6 +55,12 @@ fn lists_of_presses_have_steps() {
 }
 
 #[test]
+fn lists_of_extremes_have_steps() {
+    // Three runs of a window of the speed or more.
+    assert!(steps(&answers(&["extremes", "5"])) > 3 * 600);
+}
+
+#[test]
 fn lists_of_frames_have_both_calls() {
     // A seed whose list is not broken off.
     let text = answers(&["frames", "2"]);
@@ -67,7 +73,7 @@ fn lists_of_frames_have_both_calls() {
 
 #[test]
 fn lists_repeat() {
-    for kind in ["frames", "bytes", "presses"] {
+    for kind in ["frames", "bytes", "presses", "extremes"] {
         let list = written(LISTS, &[kind, "9"]);
         assert_eq!(written(LISTS, &[kind, "9"]), list);
         assert_ne!(written(LISTS, &[kind, "10"]), list);
@@ -95,6 +101,7 @@ fn wrong_arguments_show_the_usage() {
         &["frames"],
         &["frames", "1", "2"],
         &["presses", "1", "2"],
+        &["extremes", "1", "2"],
         &["bytes"],
         &["bytes", "1", "2"],
         &["steps", "1", "2", "3"],

@@ -1,5 +1,5 @@
 //! Readings 0 to 14 of the open points (module, sample, speed), by number,
-//! and 96.
+//! 96, and R4a.
 
 mod common;
 
@@ -219,6 +219,24 @@ fn p96_half_a_turn_is_backward() {
     assert_eq!(movement(511, 0), 511);
     assert_eq!(movement(0, 1023), 1);
     assert_eq!(movement(1023, 0), -1);
+}
+
+/// The rpm that a fresh card answers at the end of its first and its second
+/// window, where each step is so many counts on from the one before.
+fn two_windows(by: u32) -> [u32; 2] {
+    let mut card = Card::fresh(8513);
+    let rpm: Vec<u32> = (0..5040)
+        .map(|step| card.step((step * by % 1024) as u16).rpm)
+        .collect();
+    [rpm[2519], rpm[5039]]
+}
+
+#[test]
+fn r4a_the_ends_of_c_come_with_the_second_window() {
+    // C is −1,289,728, then −1,290,240.
+    assert_eq!(two_windows(512), [149_940, 150_000]);
+    // C is 1,287,209, then 1,287,720.
+    assert_eq!(two_windows(511), [149_648, 149_707]);
 }
 
 #[test]

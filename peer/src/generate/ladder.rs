@@ -10,6 +10,7 @@ use crate::generate::call_list::CallList;
 use crate::generate::file_kind::FileKind;
 use crate::generate::numbers::Numbers;
 use crate::generate::program::{Program, NORMAL};
+use crate::generate::samples::Samples;
 use crate::group::GROUPS;
 use crate::limit_block::{block_pair, PAIRS};
 use crate::setup::SLC_INTERRUPT;
@@ -61,6 +62,14 @@ impl Ladder {
     pub fn step(&mut self, sample: &[u16; SAMPLE_WORDS]) {
         self.list.step(sample);
         self.access_bytes();
+    }
+
+    /// So many steps with the next samples.
+    pub fn run(&mut self, samples: &mut Samples, count: u32) {
+        for _ in 0..count {
+            let sample = samples.next(&mut self.numbers, &self.program);
+            self.step(&sample);
+        }
     }
 
     fn call_file(&mut self, kind: FileKind, file: &[u16]) {
@@ -130,7 +139,20 @@ impl Ladder {
         }
         let mut program = self.program.clone();
         program.draw(&mut self.numbers, FileKind::Setup);
-        self.sound_cycle_of(FileKind::Setup, program);
+        self.program_from(program);
+    }
+
+    /// The same with slow updates of the speed.
+    pub fn program_slow(&mut self) {
+        self.clear_errors();
+        let mut program = self.program.clone();
+        program.draw_slow_setup(&mut self.numbers);
+        self.program_from(program);
+    }
+
+    /// This setup, then groups and limits.
+    fn program_from(&mut self, setup: Program) {
+        self.sound_cycle_of(FileKind::Setup, setup);
         if !self.program.is_independent() {
             self.sound_cycle(FileKind::Group);
         }

@@ -10,6 +10,7 @@ mod call_list;
 #[cfg(test)]
 mod coverage;
 mod cycle_lists;
+mod extreme_lists;
 mod file_kind;
 #[cfg(test)]
 mod frame_coverage;
@@ -30,6 +31,7 @@ mod traces;
 pub use byte_lists::byte_list;
 pub use call_list::CallList;
 pub use cycle_lists::cycle_list;
+pub use extreme_lists::{extreme_list, Extremes};
 pub use frame_lists::frame_list;
 pub use press_lists::press_list;
 pub use step_lists::{step_list, USUAL_STEPS};

@@ -3,7 +3,7 @@
 
 use std::collections::BTreeMap;
 
-use crate::generate::stops::{each_step, is_pressed, GroupStep, StopPresses};
+use crate::generate::stops::{each_step, is_pressed, SeenStep, StopPresses};
 use crate::generate::{press_list, CallList};
 use crate::group::{Group, Mode, GROUPS};
 
@@ -28,7 +28,7 @@ impl Seen {
         each_step(list, |step| self.step(&step));
     }
 
-    fn step(&mut self, step: &GroupStep) {
+    fn step(&mut self, step: &SeenStep) {
         for index in 0..GROUPS {
             if let (Some(before), Some(after)) = (&step.before[index], &step.after[index]) {
                 if after.program.mode == Mode::Mode5 {
@@ -39,7 +39,7 @@ impl Seen {
         }
     }
 
-    fn until_the_update(&mut self, index: usize, step: &GroupStep, after: &Group) {
+    fn until_the_update(&mut self, index: usize, step: &SeenStep, after: &Group) {
         if !self.pressed_open[index] {
             return;
         }
@@ -53,7 +53,7 @@ impl Seen {
         self.pressed_open[index] &= !step.update;
     }
 
-    fn stop(&mut self, index: usize, step: &GroupStep, before: &Group, after: &Group) {
+    fn stop(&mut self, index: usize, step: &SeenStep, before: &Group, after: &Group) {
         if !step.is_stop() {
             return;
         }

@@ -23,16 +23,9 @@ pub fn press_list(seed: u64) -> CallList {
     samples.module_start();
     for _ in 0..RUNS {
         let length = samples.draw_run(&mut ladder.numbers, &ladder.program);
-        make_steps(&mut ladder, &mut samples, length);
+        ladder.run(&mut samples, length);
         let length = samples.draw_stops(&mut ladder.numbers, &ladder.program, LONGER);
-        make_steps(&mut ladder, &mut samples, length);
+        ladder.run(&mut samples, length);
     }
     ladder.list
-}
-
-fn make_steps(ladder: &mut Ladder, samples: &mut Samples, count: u32) {
-    for _ in 0..count {
-        let sample = samples.next(&mut ladder.numbers, &ladder.program);
-        ladder.step(&sample);
-    }
 }

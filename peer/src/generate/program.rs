@@ -141,6 +141,12 @@ impl Program {
         self.m0[0] |= TACH_RESPONSE;
     }
 
+    /// Draws setup words for the slow updates of the speed.
+    pub fn draw_slow_setup(&mut self, numbers: &mut Numbers) {
+        self.draw(numbers, FileKind::Setup);
+        self.m0[0] &= !TACH_RESPONSE;
+    }
+
     /// Draws group blocks, most of them in Mode 5.
     pub fn draw_mode_5_groups(&mut self, numbers: &mut Numbers) {
         self.draw_groups(numbers);

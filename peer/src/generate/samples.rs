@@ -191,6 +191,17 @@ impl Samples {
         window - self.steps % window + numbers.below(run_on)
     }
 
+    /// The machine moves half a turn in each step, or a count less one way or
+    /// the other; tells for how many samples, a whole window of the speed
+    /// being among them.
+    pub fn draw_farthest(&mut self, numbers: &mut Numbers, program: &Program) -> u32 {
+        let window = program.window_steps();
+        self.motion = Motion::Steady(numbers.pick(&[512, 511, -511]) * PARTS);
+        self.real.draw(numbers);
+        self.virt.draw(numbers);
+        2 * window - self.steps % window + numbers.below(3)
+    }
+
     /// The machine stands; tells for how many samples, a stop being among
     /// them.
     pub fn draw_stand(&mut self, numbers: &mut Numbers, program: &Program) -> u32 {

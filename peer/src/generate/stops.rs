@@ -1,5 +1,5 @@
-//! Stops, told from outside the module, and First Cycle presses in their
-//! steps.
+//! Steps, told from outside the module: stops, and First Cycle presses in
+//! their steps.
 
 use std::io;
 
@@ -45,16 +45,18 @@ impl Clock {
     }
 }
 
-/// What a step was to the groups.
-pub(crate) struct GroupStep<'a> {
+/// What is seen of a step.
+pub(crate) struct SeenStep<'a> {
     pub before: &'a Groups,
     pub after: &'a Groups,
     /// It updates the speed.
     pub update: bool,
     pub rpm: u32,
+    /// C, at the last update.
+    pub big_c: i32,
 }
 
-impl<'a> GroupStep<'a> {
+impl<'a> SeenStep<'a> {
     /// An update with rpm 0.
     pub fn is_stop(&self) -> bool {
         self.update && self.rpm == 0
@@ -70,7 +72,7 @@ impl<'a> GroupStep<'a> {
 }
 
 /// Makes the calls of a list; each step is seen.
-pub(crate) fn each_step(list: &CallList, mut see: impl FnMut(GroupStep)) {
+pub(crate) fn each_step(list: &CallList, mut see: impl FnMut(SeenStep)) {
     let bytes = list.bytes();
     let mut words = Words::new(&bytes[..]);
     let (mut module, mut clock): (Option<Module>, _) = (None, Clock::default());
@@ -80,11 +82,12 @@ pub(crate) fn each_step(list: &CallList, mut see: impl FnMut(GroupStep)) {
                 let before = module.groups.clone();
                 let answer = module.step(&sample);
                 let update = clock.is_update(module, &answer);
-                see(GroupStep {
+                see(SeenStep {
                     before: &before,
                     after: &module.groups,
                     update,
                     rpm: answer.rpm,
+                    big_c: module.motion.big_c,
                 });
             }
             (Call::File(cycle, mut file), Some(module)) => {

@@ -102,41 +102,43 @@ fn byte_accesses_are_counted() {
     assert!(accesses > 3000);
 }
 
-/// The last line has two numbers more, those of the lists.
+/// The last line of a comparison on ten lists, without differences, counts
+/// what the lists have.
+fn assert_counted(kind: &str, counted: &str) {
+    let output = compare(&[kind, "10", "1", REPLAY, REPLAY]);
+    assert_eq!(output.status.code(), Some(0));
+    let text = text(&output);
+    let end = format!(" {counted}, 0 differences\n");
+    assert!(
+        text.starts_with("compared 10 lists, ") && text.ends_with(&end),
+        "{text}"
+    );
+}
+
 #[test]
 fn presses_in_stop_steps_are_counted() {
-    let output = compare(&["presses", "10", "1", REPLAY, REPLAY]);
-    assert_eq!(output.status.code(), Some(0));
     let presses: Vec<StopPresses> = (1..=10)
         .map(|seed| StopPresses::of_list(&press_list(seed)))
         .collect();
     let steps: u64 = presses.iter().map(|presses| presses.steps).sum();
     let counted: u64 = presses.iter().map(|presses| presses.counted).sum();
-    let text = text(&output);
-    let end = format!(" {steps} presses in stop steps, {counted} of them counted, 0 differences\n");
-    assert!(
-        text.starts_with("compared 10 lists, ") && text.ends_with(&end),
-        "{text}"
+    assert_counted(
+        "presses",
+        &format!("{steps} presses in stop steps, {counted} of them counted"),
     );
     assert!(counted > 50);
 }
 
-/// Likewise.
 #[test]
 fn windows_at_the_ends_of_c_are_counted() {
-    let output = compare(&["extremes", "10", "1", REPLAY, REPLAY]);
-    assert_eq!(output.status.code(), Some(0));
     let extremes: Vec<Extremes> = (1..=10)
         .map(|seed| Extremes::of_list(&extreme_list(seed)))
         .collect();
     let least: u64 = extremes.iter().map(|extremes| extremes.least).sum();
     let greatest: u64 = extremes.iter().map(|extremes| extremes.greatest).sum();
-    let text = text(&output);
-    let end =
-        format!(" {least} windows at the least C, {greatest} at the greatest, 0 differences\n");
-    assert!(
-        text.starts_with("compared 10 lists, ") && text.ends_with(&end),
-        "{text}"
+    assert_counted(
+        "extremes",
+        &format!("{least} windows at the least C, {greatest} at the greatest"),
     );
     assert!(least > 3 && greatest > 3);
 }

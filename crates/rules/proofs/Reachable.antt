@@ -1,6 +1,6 @@
 -- Every module that a card can hold: for each list of calls from power-up no sum or count of the state machine runs over, the movement sums and the scaled
--- position's product are within 02's bounds, setpoints, offsets, presets and
--- shifts are below SF, and what the checks bound is within its bounds. So what Card says of other modules (a sum modulo 2^32) no card meets. Assumes nothing.
+-- position's product are within 02's bounds, setpoints, offsets, presets and shifts are below SF, and what the checks bound is within its bounds. So what Card
+-- says of other modules (a sum modulo 2^32) no card meets. Assumes nothing.
 use Prim.Native.Nat.{ℕ, _+_, _-_, _*_, _^_, _≤_, _<_}
 use mathlib.Core.Path.{_≡_}
 use mathlib.Core.Bool.{Bool, true, false, cond}

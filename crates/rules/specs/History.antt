@@ -122,10 +122,6 @@ total (z ∷ h) = z +ℤ total h
 unfoldable pub windowTotal : ℕ → List ℤ → ℤ
 windowTotal size h = cond (ltb (length h) size) (pos 0) (total (take size (drop (length h % size) h)))
 
--- the sum of the movements since the window's beginning, the last step whose number is a multiple of `size`
-unfoldable pub runningTotal : ℕ → List ℤ → ℤ
-runningTotal size h = total (take (length h % size) h)
-
 unfoldable pub cOf : List ℕ → ℤ
 cOf qs = windowTotal shortSteps (movements qs)
 
@@ -135,6 +131,10 @@ bigCOf fast qs = windowTotal (windowSteps fast) (movements qs)
 
 unfoldable pub rpmAt : Bool → List ℕ → ℕ
 rpmAt fast qs = rpmOf fast (bigCOf fast qs)
+
+-- the sum of the movements since the window's beginning, that is after the last step whose number is a multiple of `size`
+unfoldable pub runningTotal : ℕ → List ℤ → ℤ
+runningTotal size h = total (take (length h % size) h)
 
 -- the step is one in which rpm is updated
 unfoldable pub updateAt : Bool → List ℕ → Bool

@@ -39,7 +39,7 @@ equal-window m size h full last e = rw (full, last, e, equal-total m size) (minu
 
 -- ---- Steps that are `by` counts apart
 
--- q of each, the latest first
+-- q of each, the latest first: raw itself, since a fresh card counts up
 qsBy : ℕ → ℕ → List ℕ
 qsBy by zero = []
 qsBy by (suc n) = n * by % 1024 ∷ qsBy by n
@@ -83,6 +83,7 @@ window-by by size (suc n) b last =
 
 -- ---- A fresh card that only steps
 
+-- as power-up left it, but for the last raw
 record Untouched (g : Configuration) : Type 0 where
   setup : g .programming .setup ≡ defaultSetup
   fault : g .fault ≡ false

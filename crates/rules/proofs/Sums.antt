@@ -92,6 +92,7 @@ pub record Between (a b z : ℤ) : Type 0 where
   pub least : a ≤ℤ z
   pub most : z ≤ℤ b
 
+-- n − b, where n is at most b + m
 difference-between : (n b m : ℕ) → n ≤ b + m → Between (negℤ (pos b)) (pos m) (subℕ n b)
 difference-between n b m l = by (ltb n b) (below b) (λ t. rw t (above b (ltb-false n b t) l))
   where
@@ -105,6 +106,7 @@ difference-between n b m l = by (ltb n b) (below b) (λ t. rw t (above b (ltb-fa
     above zero i j = record { least = leZ-yes (le→leb 0 (n - 0) (omega arith)); most = leZ-yes (le→leb (n - 0) m (omega arith)) }
     above (suc b) i j = record { least = leZ-yes tt; most = leZ-yes (le→leb (n - suc b) m (omega arith)) }
 
+-- ≤ of three
 order : (a b c : ℤ) → a ≤ℤ b → b ≤ℤ c → a ≤ℤ c
 order a b c h k = ltZ-no (by-test (ltZ c a) (λ t. clashℤ (<ℤ-≤ℤ-trans (ltZ-yes t) h) k))
   where
@@ -198,7 +200,7 @@ pub step-product : (model : Model) (l : List Call) (s : Sample) → sound (confi
 unfolding turnedIn
 step-product model l s e = product-within model l (s .raw) (sound-below (configurationOf model l) s e)
 
--- and, after an accepted setup cycle with the Preset bit, of the raw position that it goes by
+-- the raw of the last step not answered 11 is in range
 pub last-raw-below : (model : Model) (l : List Call) → lastRaw model l ≤ rawMost
 unfolding lastRaw
 last-raw-below model [] = lit≤ tt
@@ -208,5 +210,6 @@ last-raw-below model (FileCall kind file ∷ l) = last-raw-below model l
 last-raw-below model (NudgeCall w ∷ l) = last-raw-below model l
 last-raw-below model (ByteCall a ∷ l) = last-raw-below model l
 
+-- so, after an accepted setup cycle with the Preset bit, of the raw position that it went by
 pub preset-product : (model : Model) (l : List Call) → turned (setupInForce model l .reversed) (lastRaw model l) * scaleFactor (setupInForce model l) ≤ mostProduct
 preset-product model l = product-within model l (lastRaw model l) (last-raw-below model l)

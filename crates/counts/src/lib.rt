@@ -33,7 +33,7 @@ pub fn ahead(top: u16, from: u16, to: u16) -> u16
 }
 
 // The same for counts out of range.
-fn ahead_far(top: u16, from: u16, to: u16) -> u16
+pub fn ahead_far(top: u16, from: u16, to: u16) -> u16
     ensures { λ r. ⌜ r ≡ counts.ahead (top + 1) from to ⌝ }
 {
     let sf = top as u32 + 1;
@@ -57,7 +57,7 @@ pub fn sum(top: u16, a: u16, b: u16) -> u16
 }
 
 // The same for counts out of range.
-pub fn sum_far(top: u16, a: u16, b: u16) -> u16
+fn sum_far(top: u16, a: u16, b: u16) -> u16
     ensures { λ r. ⌜ r ≡ (a + b) % (top + 1) ⌝ }
 {
     let sf = top as u32 + 1;

@@ -40,7 +40,7 @@ unfolding Counts.ahead Counts.holds Counts.pairBad Groups.dwellHolds Groups.grou
 groups = tt
 
 switches1 : Unit {0}
-unfolding Switches.advanceShift Switches.moved Switches.pairHolds Switches.normalHolds Switches.pulseStart Switches.pulseOn Switches.pulseHolds Switches.switchHolds Switches.present Switches.switchPosition Switches.admitted Switches.enableHolds Switches.passes Switches.outputRule Switches.ruleAt Switches.timedHolds Switches.outputOn
+unfolding Switches.advanceShift Switches.moved Switches.pairLength Switches.holdsFor Switches.pairHolds Switches.normalHolds Switches.pulseStart Switches.pulseOn Switches.pulseHolds Switches.switchHolds Switches.present Switches.switchPosition Switches.admitted Switches.enableHolds Switches.passes Switches.outputRule Switches.ruleAt Switches.timedHolds Switches.outputOn
 switches1 = tt
 
 switches2 : Unit {0}

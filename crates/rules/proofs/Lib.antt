@@ -1,5 +1,7 @@
 pub mod Computes
 pub mod Laws
+pub mod Congruence
+pub mod Lengths
 pub mod Packing
 pub mod Past
 pub mod Stretch

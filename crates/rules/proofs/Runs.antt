@@ -1,10 +1,11 @@
 -- Runs computed of the history's definitions, whole cards where the run is short; the theorem makes them runs of the card. They rule out that both sides
 -- are dark, and show what 01 names as easy to mistake. Assumes nothing.
-use Prim.Native.Nat.{ℕ, zero, suc, _+_, _*_, _-_, _%_}
+use Prim.Native.Nat.{ℕ, zero, suc, _+_, _*_, _-_, _/_, _%_}
 use mathlib.Core.Path.{_≡_, refl, _∙_}
 use mathlib.Core.Bool.{Bool, true, false, cond, _&&_}
 use mathlib.Core.List.{List, [], _∷_, _++_, map}
 use lib.ListN.{replicate, drop}
+use lib.Dec.{ltb, leb}
 use lib.IntN.{pos}
 use Rattle.rules.specs.declared.Model.the-variants.{M8513}
 use Rattle.rules.specs.declared.Mode.{Mode}
@@ -250,6 +251,35 @@ pub advanced-run :
     × (lastShown 118 (with (oneGroup 0xC001 0 0 0) (m1 ((17, 0 ∷ 100 ∷ 0 ∷ 200 ∷ 300 ∷ []) ∷ [])) (moving 120 31 0 ++ (at 300 0 ∷ []))) ≡ dark ∷ dark ∷ dark ∷ [])
 unfolding machine m0 m1 moving
 advanced-run = (refl, refl)
+
+-- the raw positions of n steps at 1,400 rpm, from step k on
+pub turning : ℕ → ℕ → List ℕ
+turning zero k = []
+turning (suc n) k = k * 1792 / 375 % 1024 ∷ turning n (k + 1)
+
+-- what a step at a raw position shows, where outputs are on from one position to before another
+abbrev pub onFrom : ℕ → ℕ → ℕ → ℕ → ℕ × ℕ × ℕ
+onFrom outputs on off raw = (0, 0, cond (leb on raw && ltb raw off) outputs 0)
+
+-- 02's accident, two turns: a dwell of 20 counts at 200, ON advance 2 ms. At 1,400 rpm, c from 568 to 574, 2 ms are 47 counts. The OFF advance of output 17 is
+-- 2.5 ms, 59 counts: it is on for 8 counts from 153 on. That of output 18 is 3 ms, 71 counts, so that the moved OFF setpoint passes the ON setpoint: it is never
+-- on, where it was for 1,020 counts. Before the 120th step c is 0, and both are on for their 20 counts.
+pub fast-line :
+    map shown (answers (freshModule M8513) (with (oneGroup 0xC002 0 0 0) (m1 ((17, 0 ∷ 20 ∷ 25 ∷ 200 ∷ 220 ∷ []) ∷ (18, 0 ∷ 20 ∷ 30 ∷ 200 ∷ 220 ∷ []) ∷ [])) (map (λ (raw : ℕ). at raw 0) (turning 560 0))))
+    ≡ map (onFrom 3 200 220) (turning 119 0) ++ map (onFrom 1 153 161) (turning 441 119)
+unfolding machine m0 m1 turning
+fast-line = refl
+
+-- A length of a turn and more: output 17 is timed, 1 ms, output 18 normal, both 200/300 with ON advance 99.9 ms and OFF advance −99.9 ms. At c 119, from the
+-- 120th step on, the length is 100 + 495 + 495. Both hold at 150; the timed one began once and is off after five steps. At the 240th step c is 0, and neither
+-- holds. At 250 both begin again.
+pub always-run :
+    lastShown 118
+    (with (oneGroup 0xC002 0 0 0) (m1 ((17, 2 ∷ 999 ∷ 64537 ∷ 200 ∷ 300 ∷ 1 ∷ []) ∷ (18, 0 ∷ 999 ∷ 64537 ∷ 200 ∷ 300 ∷ []) ∷ []))
+    (moving 120 31 0 ++ replicate 120 (at 150 0) ++ replicate 6 (at 250 0)))
+    ≡ dark ∷ replicate 5 (0, 0, 3) ++ replicate 115 (0, 0, 2) ++ (dark ∷ replicate 5 (0, 0, 3)) ++ ((0, 0, 2) ∷ [])
+unfolding machine m0 m1 moving
+always-run = refl
 
 -- Mode 5, two groups with dwell 0/1000, inputs 17 and 18 active: a step in the dwell qualifies when rpm is not 0, with TResp 1 from the 600th step on; after 600
 -- steps without movement comes a stop. In its step group 1 has an edge of its First Cycle Input, 24, and is open; group 2 is closed, and an edge of its own, 8,

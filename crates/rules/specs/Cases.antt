@@ -16,6 +16,7 @@ use Rattle.rules.specs.declared.Errors.{Errors}
 use Rattle.rules.specs.declared.Refusal.{Refusal}
 use Rattle.rules.specs.declared.Refusal.the-variants.{M0Length, M1Length, UnknownModule, BlockNumber, Ignored, SetupData, GroupData, LimitData, NudgeOutput, NudgeSetpoint, Transducer, TraceFile, ByteOffset, ReadOnlyByte}
 use Rattle.rules.specs.declared.Action.{Action}
+use Rattle.rules.specs.declared.Advance.{Advance}
 use Rattle.rules.specs.declared.Limit.{Limit}
 use Rattle.rules.specs.declared.Group.{Group}
 use Rattle.rules.specs.declared.Detector.{Detector}
@@ -38,7 +39,7 @@ use Rattle.rules.specs.Variants.{groupMode, realCount, virtualCount, and
 use Rattle.rules.specs.Counts.{ahead, holds}
 use Rattle.rules.specs.Motion.{realInput, turned, scaledPosition, machinePosition, windowSteps, tachShown, tachOverflow, rpmOf, detects, conditionsWith, conditions, faultConditions, biasedC}
 use Rattle.rules.specs.Groups.{groupPosition, groupEvent, isOpen}
-use Rattle.rules.specs.Switches.{moved, pairHolds, normalHolds, pulseHolds, present, admitted, enableHolds, detectorHolds, outputWords, changedCount, answerOf}
+use Rattle.rules.specs.Switches.{moved, pairLength, pairHolds, normalHolds, pulseHolds, present, admitted, enableHolds, detectorHolds, outputWords, changedCount, answerOf}
 use Rattle.rules.specs.Cycle.{numberOf, outcomeNumber, withProgramming, errorOf}
 use Rattle.rules.specs.SetupWords.{setupErrors, setupOf, noPrograms}
 use Rattle.rules.specs.GroupWords.{groupOf, ownersOf, failingGroup, groupErrors}
@@ -236,6 +237,27 @@ advanced l on off = record {
   setpoints = l .setpoints;
 }
 
+-- an advance of so many tenths of a ms, and a negative one
+abbrev pub early : ℕ → Advance
+early tenths = record { negative = false; tenths = tenths }
+
+abbrev pub late : ℕ → Advance
+late tenths = record { negative = true; tenths = tenths }
+
+-- a normal switch of one pair with ON and OFF advance; the positions of the turn at which the pair holds
+abbrev pub pairAdvanced : Advance → Advance → ℕ → ℕ → Limit
+pairAdvanced onadvance offadvance on off = record {
+  action = record { kind = 1; quantity = 0; count = 0; duration = 0 };
+  enable = false;
+  detector = 0;
+  onadvance = onadvance;
+  offadvance = offadvance;
+  setpoints = on ∷ off ∷ [];
+}
+
+abbrev pub heldAt : ℕ → ℤ → Limit → List ℕ
+heldAt sf c l = positionsWith sf 0 (λ p. pairHolds sf c l 0 (OfMachine (record { 0 = p })))
+
 -- of output 1 to 3 a normal, a pulse and a timed switch; the others have none
 unfoldable pub threeSwitches : Programming
 threeSwitches =
@@ -324,6 +346,36 @@ ofGroups =
     ∷ tests (isOpen Mode0 false false ∷ isOpen Mode1 false false ∷ isOpen Mode2 true false ∷ isOpen Mode3 false true ∷ isOpen Mode4 true false ∷ isOpen Mode5 true false ∷ isOpen NoMode true true ∷ [])
     (true ∷ true ∷ false ∷ false ∷ false ∷ false ∷ false ∷ [])
     ∷ tests (isOpen Mode2 false true ∷ isOpen Mode3 true false ∷ isOpen Mode4 false true ∷ isOpen Mode5 false true ∷ []) (true ∷ true ∷ true ∷ true ∷ [])
+    ∷ []
+
+unfoldable pub ofLengths : List Case
+ofLengths =
+    -- 02: "((off − on) mod SF) + ON shift − OFF shift, each shift being 01's s of that setpoint": toward zero each, at c 239 both are 0
+    integers (map (λ (c : ℤ). pairLength 1024 c (pairAdvanced (early 1) (late 1) 100 120) 0) (pos 239 ∷ pos 240 ∷ negsuc 239 ∷ [])) (pos 20 ∷ pos 22 ∷ pos 18 ∷ [])
+    -- "before reduction mod SF": 1025 and 1026 counts
+    ∷ integers (pairLength 1024 (pos 410) (pairAdvanced (early 600) (early 601) 100 120) 0 ∷ []) (pos 19 ∷ [])
+    -- (off − on) mod SF is of the setpoints as programmed; shifts of both signs, further than a turn
+    ∷ integers (map (λ (c : ℤ). pairLength 1000 c (pairAdvanced (late 999) (early 999) 990 10) 0) (pos 24576 ∷ negsuc 24575 ∷ [])) (negsuc 199779 ∷ pos 199820 ∷ [])
+    -- a turn of ten at c 24576, where a tenth of a ms is a count: "At 0 or less the pair never holds."
+    ∷ numbers (heldAt 10 (pos 24576) (pairAdvanced (early 0) (early 25) 3 5)) []
+    ∷ numbers (heldAt 10 (pos 24576) (pairAdvanced (early 0) (early 3) 3 5)) []
+    ∷ numbers (heldAt 10 (pos 24576) (pairAdvanced (early 0) (early 2) 3 5)) []
+    -- "Otherwise it holds for that many counts from the moved ON setpoint": 1, 2, 3, 3 and 9 counts
+    ∷ numbers (heldAt 10 (pos 24576) (pairAdvanced (early 0) (early 1) 3 5)) (3 ∷ [])
+    ∷ numbers (heldAt 10 (pos 24576) (pairAdvanced (early 1) (early 1) 3 5)) (2 ∷ 3 ∷ [])
+    ∷ numbers (heldAt 10 (pos 24576) (pairAdvanced (late 1) (late 2) 3 5)) (4 ∷ 5 ∷ 6 ∷ [])
+    ∷ numbers (heldAt 10 (negsuc 24575) (pairAdvanced (early 1) (early 2) 3 5)) (4 ∷ 5 ∷ 6 ∷ [])
+    ∷ numbers (heldAt 10 (pos 24576) (pairAdvanced (early 7) (early 0) 3 5)) (0 ∷ 1 ∷ 2 ∷ 3 ∷ 4 ∷ 6 ∷ 7 ∷ 8 ∷ 9 ∷ [])
+    -- "At SF or more it always holds."
+    ∷ numbers (heldAt 10 (pos 24576) (pairAdvanced (early 8) (early 0) 3 5)) (table 10 0 (λ p. p))
+    ∷ numbers (heldAt 10 (pos 24576) (pairAdvanced (early 9) (early 0) 3 5)) (table 10 0 (λ p. p))
+    ∷ numbers (heldAt 10 (pos 24576) (pairAdvanced (early 18) (early 0) 3 5)) (table 10 0 (λ p. p))
+    -- "0/0 pairs are as before": unused, however far the shifts are apart
+    ∷ numbers (heldAt 10 (pos 24576) (pairAdvanced (early 4) (early 0) 0 0) ++ heldAt 10 (pos 24576) (pairAdvanced (early 18) (early 0) 0 0)) []
+    -- 02's accident: "At 1,400 rpm a glue dwell of 20 counts with a larger OFF advance than ON advance"; c is 573, 2 ms are 47 counts, 2.5 ms 59, 3 ms 71
+    ∷ integers (map (λ (off : ℕ). pairLength 1024 (pos 573) (pairAdvanced (early 20) (early off) 200 220) 0) (20 ∷ 25 ∷ 30 ∷ [])) (pos 20 ∷ pos 8 ∷ negsuc 3 ∷ [])
+    ∷ numbers (heldAt 1024 (pos 573) (pairAdvanced (early 20) (early 25) 200 220)) (table 8 153 (λ p. p))
+    ∷ numbers (heldAt 1024 (pos 573) (pairAdvanced (early 20) (early 30) 200 220)) []
     ∷ []
 
 unfoldable pub ofSwitches : List Case
@@ -596,7 +648,7 @@ ofTrace =
 
 -- THE TABLE
 unfoldable pub cases : List Case
-cases = lettered ++ ofWords ++ ofMotion ++ ofGroups ++ ofSwitches ++ ofCycles ++ ofSetup ++ ofGroupWords ++ ofLimitWords ++ ofNudge ++ ofReader ++ ofBus ++ ofTrace
+cases = lettered ++ ofWords ++ ofMotion ++ ofGroups ++ ofLengths ++ ofSwitches ++ ofCycles ++ ofSetup ++ ofGroupWords ++ ofLimitWords ++ ofNudge ++ ofReader ++ ofBus ++ ofTrace
 
 -- what a line says of the definitions
 abbrev pub Says : Case → Type 0

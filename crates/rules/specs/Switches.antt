@@ -5,8 +5,8 @@ use mathlib.Core.Bool.{Bool, true, false, cond, not, _&&_, _||_}
 use mathlib.Core.List.{List, []}
 use lib.ListN.{getD, replicate}
 use lib.Dec.{ltb, leb, eqb}
-use lib.IntN.{ℤ, pos, negℤ, _-ℤ_, _*ℤ_}
-use lib.Signed.{quotZ}
+use lib.IntN.{ℤ, pos, negℤ, _+ℤ_, _-ℤ_, _*ℤ_}
+use lib.Signed.{quotZ, ltZ, leZ}
 use Rattle.rules.specs.declared.GroupPosition.{GroupPosition}
 use Rattle.rules.specs.declared.Position.{Position}
 use Rattle.rules.specs.declared.Position.the-variants.{OfMachine, OfGroup}
@@ -28,7 +28,7 @@ use Rattle.rules.specs.declared.Conditions.{Conditions}
 use Rattle.rules.specs.declared.OutputWords.{OutputWords}
 use Rattle.rules.specs.Words.{bit, wordOf, modulo, someOf, differing, forced}
 use Rattle.rules.specs.Variants.{realCount, virtualCount, limitSwitch, andedOf}
-use Rattle.rules.specs.Counts.{ahead, holds, usedPair}
+use Rattle.rules.specs.Counts.{ahead, usedPair}
 use Rattle.rules.specs.Motion.{tachShown, tachOverflow, cValue, scale, level, enableInput}
 use Rattle.rules.specs.Groups.{noPosition, ofGroup}
 
@@ -59,11 +59,26 @@ onSetpoint l k = getD (l .setpoints) (2 * k) 0
 abbrev pub offSetpoint : Limit → ℕ → ℕ
 offSetpoint l k = getD (l .setpoints) (2 * k + 1) 0
 
--- pair k of a switch, its setpoints moved by their advances, holds
+-- s of a switch's ON setpoints, and of its OFF setpoints
+abbrev pub onShift : ℕ → ℤ → Limit → ℤ
+onShift sf c l = advanceShift sf (advanceValue (l .onadvance)) c
+
+abbrev pub offShift : ℕ → ℤ → Limit → ℤ
+offShift sf c l = advanceShift sf (advanceValue (l .offadvance)) c
+
+-- 02: "For normal and timed switches the length becomes ((off − on) mod SF) + ON shift − OFF shift, each shift being 01's s of that setpoint, before reduction mod SF."
+unfoldable pub pairLength : ℕ → ℤ → Limit → ℕ → ℤ
+pairLength sf c l k = pos (ahead sf (onSetpoint l k) (offSetpoint l k)) +ℤ onShift sf c l -ℤ offShift sf c l
+
+-- 02: "At 0 or less the pair never holds. At SF or more it always holds. Otherwise it holds for that many counts from the moved ON setpoint."
+unfoldable pub holdsFor : ℕ → ℤ → ℕ → ℕ → Bool
+holdsFor sf size start p = cond (leZ size (pos 0)) false (cond (leZ (pos sf) size) true (ltZ (pos (ahead sf start p)) size))
+
+-- pair k of a switch holds; "0/0 pairs are as before"
 unfoldable pub pairHolds : ℕ → ℤ → Limit → ℕ → Position → Bool
 pairHolds sf c l k p =
     usedPair (onSetpoint l k) (offSetpoint l k)
-    && holds sf (moved sf (advanceValue (l .onadvance)) c (onSetpoint l k)) (moved sf (advanceValue (l .offadvance)) c (offSetpoint l k)) (countAt p)
+    && holdsFor sf (pairLength sf c l k) (moved sf (advanceValue (l .onadvance)) c (onSetpoint l k)) (countAt p)
 
 -- "Normal: some used pair holds"
 unfoldable pub normalHolds : ℕ → ℤ → Limit → Position → Bool

@@ -1,19 +1,20 @@
--- The advance in signs and magnitudes: 01's s is a quotient of magnitudes, and every setpoint of a switch moves by one displacement.
+-- The advance in signs and magnitudes: 01's s is a quotient of magnitudes; one number for either sign; a count taken back by a displacement.
 -- Assumes nothing.
-use Prim.Native.Nat.{ℕ, zero, suc, _+_, _-_, _*_, _/_, _%_}
+use Prim.Native.Nat.{ℕ, zero, suc, _+_, _-_, _*_, _/_, _%_, _≤_}
 use mathlib.Core.Bool.{Bool, true, false, cond, xor}
 use mathlib.Core.Path.{_≡_, refl, sym, ap, _∙_}
-use native.Mathlib.Nat.{zero-div, mul-zero, zero-mul, zero-mod, mod-mod, add-mod-mod}
+use native.Mathlib.Nat.{zero-div, mul-zero, zero-mul, mul-le-mul, mod-mod, add-mod-mod}
 use native.Mathlib.Omega.{arith}
+use borrow.Author.Tests.{lt-ltb, le-ltb}
 use lib.Dec.{ltb}
-use lib.IntN.{ℤ, pos, negsuc, negℤ, natAbs, _-ℤ_, _*ℤ_}
+use lib.IntN.{ℤ, pos, negsuc, negℤ, natAbs, subℕ, _+ℤ_, _-ℤ_, _*ℤ_, +ℤ-assoc, +ℤ-comm, +ℤ-idl, +ℤ-invl, negℤ-+ℤ, negℤ-negℤ}
 use lib.Signed.{quotZ}
-use Rattle.rules.specs.Words.{modulo}
 use Rattle.rules.specs.Motion.{cValue}
 use Rattle.rules.specs.Counts.{ahead}
-use Rattle.rules.specs.Switches.{signed, advanceShift, moved}
-use Rattle.rules.proofs.Laws.{minus, modulo-natural, ahead-natural, ahead-up}
-use Rattle.switch.specs.Parts.{shiftCounts}
+use Rattle.rules.specs.Switches.{signed, advanceShift}
+use Rattle.rules.proofs.Laws.{minus, difference-add, mod-below, ahead-below}
+use Rattle.rules.proofs.Congruence.{congruent, modulo-only, ahead-gives}
+use Rattle.switch.specs.Parts.{shiftBias, shiftCounts, takenBack}
 
 -- 0 has one sign
 no-sign : (n : ℕ) → n ≡ 0 → negℤ (pos n) ≡ pos n
@@ -49,39 +50,6 @@ shift-signed sf x y a c =
     ∙ ap (λ (z : ℤ). quotZ z (pos 245760)) (product (xor x y) false (a * c) sf ∙ ap (λ (b : Bool). signed b (a * c * sf)) (unsigned (xor x y)))
     ∙ quotient (xor x y) (a * c * sf) 245760
 
-behind : (t n : ℕ) → modulo (pos 0 -ℤ pos n) (t + 1) ≡ (t + 1 - n % (t + 1)) % (t + 1)
-behind t n =
-    let e : 0 + (t + 1 - n % (t + 1)) ≡ t + 1 - n % (t + 1) = omega arith in
-    rw (minus 0 n, modulo-natural 0 n t, e)
-
-reduced-up : (t x n : ℕ) → modulo (pos x -ℤ negsuc n) (t + 1) ≡ (x + modulo (pos 0 -ℤ negsuc n) (t + 1)) % (t + 1)
-unfolding modulo
-reduced-up t x n = let e : 0 + suc n ≡ suc n = omega arith in rw e (sym (add-mod-mod x (suc n) (t + 1)))
-
-reduced : (t x : ℕ) (z : ℤ) → modulo (pos x -ℤ z) (t + 1) ≡ (x + modulo (pos 0 -ℤ z) (t + 1)) % (t + 1)
-reduced t x (pos n) =
-    rw (behind t n, minus x n, modulo-natural x n t) (sym (add-mod-mod x (t + 1 - n % (t + 1)) (t + 1)))
-reduced t x (negsuc n) = reduced-up t x n
-
--- every setpoint moves by what 0 moves
-pub moved-by : (t : ℕ) (a c : ℤ) (x : ℕ) → moved (t + 1) a c x ≡ (x + moved (t + 1) a c 0) % (t + 1)
-unfolding moved
-moved-by t a c x = reduced t x (advanceShift (t + 1) a c)
-
-backward : (t n : ℕ) → modulo (pos 0 -ℤ pos n) (t + 1) ≡ ahead (t + 1) (n % (t + 1)) 0
-backward t n =
-    let e : 0 + (t + 1 - n % (t + 1)) ≡ t + 1 - n % (t + 1) = omega arith in
-    rw (behind t n, ahead-natural t (n % (t + 1)) 0, mod-mod n (t + 1), e)
-
-forward : (t n : ℕ) → modulo (pos 0 -ℤ negℤ (pos n)) (t + 1) ≡ n % (t + 1)
-unfolding modulo
-forward t zero = refl
-forward t (suc n) = let e : 0 + suc n ≡ suc n = omega arith in rw e
-
-by-sign : (t n : ℕ) (b : Bool) → modulo (pos 0 -ℤ signed b n) (t + 1) ≡ cond b (n % (t + 1)) (ahead (t + 1) (n % (t + 1)) 0)
-by-sign t n true = forward t n
-by-sign t n false = backward t n
-
 -- c, as a number n holds it, in sign and magnitude: n is below what was added, and how far it is from that
 abbrev pub back : ℕ → Bool
 back n = ltb n 61440
@@ -96,22 +64,69 @@ in-signs n = go (back n)
     go true = refl
     go false = refl
 
--- what 0 moves by: against s
-pub displacement-of : (t : ℕ) (x : Bool) (a n : ℕ) →
-    moved (t + 1) (signed x a) (cValue n) 0 ≡ cond (xor x (back n)) (shiftCounts (t + 1) a (magnitude n)) (ahead (t + 1) (shiftCounts (t + 1) a (magnitude n)) 0)
-unfolding moved shiftCounts
-displacement-of t x a n =
-    ap (λ (z : ℤ). modulo (pos 0 -ℤ z) (t + 1)) (ap (advanceShift (t + 1) (signed x a)) (in-signs n) ∙ shift-signed (t + 1) x (back n) a (magnitude n))
-    ∙ by-sign t (a * magnitude n * (t + 1) / 245760) (xor x (back n))
-
-same-either : (b : Bool) (n : ℕ) → cond b n n ≡ n
-same-either true n = refl
-same-either false n = refl
-
--- without advance or travel it stays
-pub unmoved : (t : ℕ) (x : Bool) (a n : ℕ) → a * magnitude n ≡ 0 → moved (t + 1) (signed x a) (cValue n) 0 ≡ 0
+-- s of an advance at c, as a number n holds c
+pub shift-of : (t : ℕ) (x : Bool) (a n : ℕ) → advanceShift (t + 1) (signed x a) (cValue n) ≡ signed (xor x (back n)) (shiftCounts (t + 1) a (magnitude n))
 unfolding shiftCounts
-unmoved t x a n e =
-    displacement-of t x a n
-    ∙ (let z : a * magnitude n * (t + 1) / 245760 % (t + 1) ≡ 0 = rw (e, zero-mul (t + 1)) (zero-mod (t + 1)) in
-    rw (z, ahead-up t 0 0 (omega arith) (omega arith)) (same-either (xor x (back n)) 0))
+shift-of t x a n = ap (advanceShift (t + 1) (signed x a)) (in-signs n) ∙ shift-signed (t + 1) x (back n) a (magnitude n)
+
+-- without advance there is none
+pub no-shift : (t : ℕ) (x : Bool) (a n : ℕ) → a ≡ 0 → advanceShift (t + 1) (signed x a) (cValue n) ≡ pos 0
+unfolding shiftCounts
+no-shift t x a n e =
+    shift-of t x a n
+    ∙ (let z : a * magnitude n * (t + 1) / 245760 ≡ 0 = rw (e, zero-mul (magnitude n), zero-mul (t + 1)) (zero-div 245760) in
+    rw z (nought (xor x (back n))))
+  where
+    nought : (b : Bool) → signed b 0 ≡ pos 0
+    nought true = refl
+    nought false = refl
+
+-- s with its bias, for either sign
+pub biased-up : (b n : ℕ) → subℕ (b + n) b ≡ pos n
+biased-up b n = rw (le-ltb (b + n) b (omega arith)) (ap pos (omega arith))
+
+pub biased-down : (b n : ℕ) → n ≤ b → subℕ (b - n) b ≡ negℤ (pos n)
+biased-down b zero h = rw (le-ltb (b - 0) b (omega arith)) (ap pos (omega arith))
+biased-down b (suc n) h = rw (lt-ltb (b - suc n) b (omega arith)) (ap negsuc (omega arith))
+
+-- no s of a stored advance and c is over the bias
+pub shift-fits : (sf a n : ℕ) → a ≤ 65535 → n ≤ 4294967295 → sf ≤ 65536 → shiftCounts sf a n ≤ shiftBias
+unfolding shiftCounts
+shift-fits sf a n ha hn hs =
+    let p : a * n ≤ 65535 * 4294967295 = mul-le-mul {n₂ = 65535} {m₂ = 4294967295} ha hn in
+    let q : a * n * sf ≤ 65535 * 4294967295 * 65536 = mul-le-mul {n₂ = 65535 * 4294967295} {m₂ = 65536} p hs in
+    omega arith
+
+-- a difference of two shifts with one bias is the difference of the shifts
+pub one-bias : (a b d : ℕ) → subℕ a d -ℤ subℕ b d ≡ subℕ a b
+one-bias a b d =
+    rw (← minus a d, ← minus b d, ← minus a b)
+    (ap (λ (z : ℤ). (pos a -ℤ pos d) +ℤ z) (negℤ-+ℤ (pos b) (negℤ (pos d)) ∙ ap (λ (z : ℤ). negℤ (pos b) +ℤ z) (negℤ-negℤ (pos d)))
+    ∙ +ℤ-assoc (pos a) (negℤ (pos d)) (negℤ (pos b) +ℤ pos d)
+    ∙ ap (λ (z : ℤ). pos a +ℤ z)
+    (ap (λ (z : ℤ). negℤ (pos d) +ℤ z) (+ℤ-comm (negℤ (pos b)) (pos d))
+    ∙ sym (+ℤ-assoc (negℤ (pos d)) (pos d) (negℤ (pos b)))
+    ∙ ap (λ (z : ℤ). z +ℤ negℤ (pos b)) (+ℤ-invl (pos d))
+    ∙ +ℤ-idl (negℤ (pos b))))
+
+-- ---- A count taken back
+
+shifted : (p s b : ℕ) → pos p +ℤ subℕ s b ≡ subℕ (p + s) b
+shifted p s b = +ℤ-comm (pos p) (subℕ s b) ∙ difference-add s b p ∙ ap (λ (n : ℕ). subℕ n b) (omega arith)
+
+-- by m counts down, where s is m below its bias
+pub back-down : (t s b m p r : ℕ) → s + m ≡ b → r ≡ ahead (t + 1) (m % (t + 1)) p → r ≡ takenBack (t + 1) (subℕ s b) p
+unfolding takenBack
+back-down t s b m p r e h =
+    rw (shifted p s b)
+    (modulo-only t (p + s) b r (rw h (ahead-below t (m % (t + 1)) p))
+    (sym (congruent t (m % (t + 1)) m (r + s) (r + m % (t + 1) + s) (r + b) (mod-mod m (t + 1)) (omega arith) (omega arith))
+    ∙ congruent t (r + m % (t + 1)) p s (r + m % (t + 1) + s) (p + s) (rw h (ahead-gives t (m % (t + 1)) p)) refl refl))
+
+-- by m counts up, where s is m over its bias
+pub back-up : (t s b m p r : ℕ) → s ≡ b + m → r ≡ (p + m % (t + 1)) % (t + 1) → r ≡ takenBack (t + 1) (subℕ s b) p
+unfolding takenBack
+back-up t s b m p r e h =
+    rw (shifted p s b)
+    (modulo-only t (p + s) b r (rw h (mod-below (p + m % (t + 1)) t))
+    (congruent t r (p + m) b (r + b) (p + s) (rw (h, mod-mod (p + m % (t + 1)) (t + 1)) (add-mod-mod p m (t + 1))) refl (omega arith)))

@@ -1,40 +1,65 @@
--- `switch::pair_at` meets its contract: the moved pair, where it is used, in range or not. Assumes nothing.
-use Rattle.switch.specs.Parts.{pairAt}
+-- `switch::pair_at` meets its contract: one test where the pair is used, in range or not. Assumes nothing.
 use mathlib.Core.Path.{sym, _∙_}
+use native.Mathlib.Omega.{arith}
+use Rattle.rules.proofs.Laws.{ahead-below}
+use Rattle.switch.specs.Parts.{pairAt}
 use borrow.Author.Needs.{needs}
 use Rattle.switch.proofs.pair_at.Statement.{statement}
 use Rattle.switch.proofs.pair_at.Tie as tie
 
+add-sf : tie.Need-add-sf
+add-sf c = search needs
+
 used-pair-requires : tie.Need-used-pair-requires
 used-pair-requires c κs = search needs
 
-sum-far-requires : tie.Need-sum-far-requires
-sum-far-requires c κs = search needs
+ahead-far-requires : tie.Need-ahead-far-requires
+ahead-far-requires c κs = search needs
 
-sum-far-requires-2 : tie.Need-sum-far-requires-2
-sum-far-requires-2 c κs = search needs
+cast-length : tie.Need-cast-length
+cast-length c = search needs
 
-holds-far-requires : tie.Need-holds-far-requires
-holds-far-requires c κs = search needs
+ahead-far-requires-2 : tie.Need-ahead-far-requires-2
+ahead-far-requires-2 c κs = search needs
+
+cast-result : tie.Need-cast-result
+cast-result c = search needs
+
+sub-result : tie.Need-sub-result
+sub-result c =
+    let x = c .before .before .before .before .before .args in
+    omega (arith, ahead-below (x .top) (x .on) (x .off), c .before .ahead-far .ensures)
+
+add-result : tie.Need-add-result
+add-result c = search needs
 
 returns : tie.Need-returns
 unfolding pairAt
-returns c =
-    rw (sym (c .before .before .before .before .before .used-pair .ensures) ∙ c .before .before .before .before .if1 .taken, c .holds-far .ensures, c .before .sum-far2 .ensures, c .before .before .sum-far .ensures)
+returns c = rw (sym (c .before .before .before .before .used-pair .ensures) ∙ c .before .before .before .if1 .taken, c .ahead-far2 .ensures, c .before .ahead-far .ensures)
 
-sum-requires : tie.Need-sum-requires
-sum-requires c κs = search needs
+ahead-requires : tie.Need-ahead-requires
+ahead-requires c κs = search needs
 
-sum-requires-2 : tie.Need-sum-requires-2
-sum-requires-2 c κs = search needs
+cast-length-2 : tie.Need-cast-length-2
+cast-length-2 c = search needs
 
-holds-requires : tie.Need-holds-requires
-holds-requires c κs = search needs
+ahead-requires-2 : tie.Need-ahead-requires-2
+ahead-requires-2 c κs = search needs
+
+cast-result-2 : tie.Need-cast-result-2
+cast-result-2 c = search needs
+
+sub-result-2 : tie.Need-sub-result-2
+sub-result-2 c =
+    let x = c .before .before .before .before .before .args in
+    omega (arith, ahead-below (x .top) (x .on) (x .off), c .before .ahead .ensures)
+
+add-result-2 : tie.Need-add-result-2
+add-result-2 c = search needs
 
 returns-2 : tie.Need-returns-2
 unfolding pairAt
-returns-2 c =
-    rw (sym (c .before .before .before .before .before .used-pair .ensures) ∙ c .before .before .before .before .if1 .taken, c .holds .ensures, c .before .sum2 .ensures, c .before .before .sum .ensures)
+returns-2 c = rw (sym (c .before .before .before .before .used-pair .ensures) ∙ c .before .before .before .if1 .taken, c .ahead2 .ensures, c .before .ahead .ensures)
 
 returns-3 : tie.Need-returns-3
 unfolding pairAt
@@ -44,13 +69,20 @@ pub pair-at-spec : {M : Type 1} → statement M
 pair-at-spec =
     tie.close
     (tie.spec
+    add-sf
     used-pair-requires
-    sum-far-requires
-    sum-far-requires-2
-    holds-far-requires
+    ahead-far-requires
+    cast-length
+    ahead-far-requires-2
+    cast-result
+    sub-result
+    add-result
     returns
-    sum-requires
-    sum-requires-2
-    holds-requires
+    ahead-requires
+    cast-length-2
+    ahead-requires-2
+    cast-result-2
+    sub-result-2
+    add-result-2
     returns-2
     returns-3)

@@ -1,9 +1,11 @@
--- `switch::pulse_holds` meets its contract: the train from the moved ON setpoint, where the pair is used. Assumes nothing.
-use Rattle.switch.proofs.Advance.{moved-by}
-use Rattle.rules.specs.Switches.{advanceValue, moved, onSetpoint, pulseHolds}
-use Rattle.rules.specs.Motion.{cValue}
+-- `switch::pulse_holds` meets its contract: the train by the position taken back, where the pair is used. Assumes nothing.
 use Prim.Native.Nat.{_+_}
 use mathlib.Core.Path.{_≡_, sym, _∙_}
+use Rattle.rules.specs.Counts.{ahead}
+use Rattle.rules.specs.Motion.{cValue}
+use Rattle.rules.specs.Switches.{advanceValue, moved, countAt, onSetpoint, pulseHolds}
+use Rattle.rules.proofs.Congruence.{ahead-of-moved}
+use Rattle.switch.specs.Parts.{takenBack}
 use borrow.Author.Needs.{needs}
 use Rattle.switch.proofs.pulse_holds.Statement.{statement}
 use Rattle.switch.proofs.pulse_holds.Tie as tie
@@ -17,17 +19,17 @@ array-read-off c = search needs
 used-pair-requires : tie.Need-used-pair-requires
 used-pair-requires c κs = search needs
 
-displacement-requires : tie.Need-displacement-requires
-displacement-requires c κs = search needs
-
-sum-requires : tie.Need-sum-requires
-sum-requires c κs = search needs
-
-ahead-requires : tie.Need-ahead-requires
-ahead-requires c κs = search needs
+shift-requires : tie.Need-shift-requires
+shift-requires c κs = search needs
 
 count-at-requires : tie.Need-count-at-requires
 count-at-requires c κs = search needs
+
+taken-back-requires : tie.Need-taken-back-requires
+taken-back-requires c κs = search needs
+
+ahead-requires : tie.Need-ahead-requires
+ahead-requires c κs = search needs
 
 ahead-requires-2 : tie.Need-ahead-requires-2
 ahead-requires-2 c κs = search needs
@@ -35,27 +37,27 @@ ahead-requires-2 c κs = search needs
 pulse-on-requires : tie.Need-pulse-on-requires
 pulse-on-requires c κs = search needs
 
--- where the train starts
-start : (c : tie.After-sum) →
-    (let x = c .before .before .before .before .before .args in
-    c .sum .result ≡ moved (x .top + 1) (advanceValue (x .l .onadvance)) (cValue (x .c)) (onSetpoint (x .l) 0))
-start c =
-    let x = c .before .before .before .before .before .args in
-    rw (c .sum .ensures, c .before .displacement .ensures)
-    (sym (moved-by (x .top) (advanceValue (x .l .onadvance)) (cValue (x .c)) (onSetpoint (x .l) 0)))
+-- how far into the train the position is
+far : (c : tie.After-ahead2) →
+    let x = c .before .before .before .before .before .before .before .before .args in
+    c .ahead2 .result ≡ ahead (x .top + 1) (moved (x .top + 1) (advanceValue (x .l .onadvance)) (cValue (x .c)) (onSetpoint (x .l) 0)) (countAt (x .p))
+unfolding takenBack
+far c =
+    let d = c .before .before in
+    let x = d .before .before .before .before .before .before .args in
+    rw (c .ahead2 .ensures, d .taken-back .ensures, d .before .count-at .ensures, d .before .before .shift .ensures)
+    (sym (ahead-of-moved (x .top) (advanceValue (x .l .onadvance)) (cValue (x .c)) (onSetpoint (x .l) 0) (countAt (x .p))))
 
 returns : tie.Need-returns
 unfolding pulseHolds
 returns c =
-    let b = c .before .before .before .before in
-    let u = b .before .before .before in
+    let d = c .before .before in
+    let u = d .before .before .before .before .before in
     rw (
-      sym (u .used-pair .ensures) ∙ b .before .before .if1 .taken,
+      sym (u .used-pair .ensures) ∙ d .before .before .before .before .if1 .taken,
       c .pulse-on .ensures,
-      c .before .ahead2 .ensures,
-      c .before .before .count-at .ensures,
-      c .before .before .before .ahead .ensures,
-      start b,
+      far (c .before),
+      d .ahead .ensures,
     )
 
 returns-2 : tie.Need-returns-2
@@ -69,10 +71,10 @@ pulse-holds-spec =
     array-read-on
     array-read-off
     used-pair-requires
-    displacement-requires
-    sum-requires
-    ahead-requires
+    shift-requires
     count-at-requires
+    taken-back-requires
+    ahead-requires
     ahead-requires-2
     pulse-on-requires
     returns

@@ -10,11 +10,11 @@ use Rattle.switch.proofs.some_pair.Statement.{statement}
 use Rattle.switch.proofs.some_pair.Tie as tie
 
 abbrev Inv-loop : tie.InvT-loop
-Inv-loop top onmove offmove p setpoints k₀ k =
-    (k ≤ 8) × (somePair (top + 1) onmove offmove setpoints p ≡ someOf (8 - k) k (pairOf (top + 1) onmove offmove setpoints p))
+Inv-loop top from spread setpoints k₀ k =
+    (k ≤ 8) × (somePair (top + 1) from spread setpoints ≡ someOf (8 - k) k (pairOf (top + 1) from spread setpoints))
 
 abbrev μ-loop : tie.MeasureT-loop
-μ-loop top onmove offmove p setpoints k₀ k = 8 - k
+μ-loop top from spread setpoints k₀ k = 8 - k
 
 loop-holds : tie.Need-loop-holds Inv-loop μ-loop
 unfolding somePair
@@ -47,7 +47,7 @@ pair-at-requires c κs = tt
 -- the pair that the turn tests
 tested : (c : tie.After-pair-at Inv-loop μ-loop) →
     (let x = c .before .before .before .args in
-    pairOf (x .top + 1) (x .onmove) (x .offmove) (x .t4) (x .p) (c .before .before .loop .k) ≡ c .pair-at .result)
+    pairOf (x .top + 1) (x .from) (x .spread) (x .t4) (c .before .before .loop .k) ≡ c .pair-at .result)
 unfolding pairOf
 tested c = sym (c .pair-at .ensures)
 

@@ -87,6 +87,12 @@ pub fn moved_setpoint(setpoint: u16, shift: i64, scale: u16) -> u16 {
     (i64::from(setpoint) - shift % scale).rem_euclid(scale) as u16
 }
 
+/// ((off − on) mod SF) + ON shift − OFF shift, a signed number: the length of
+/// a pair of unmoved `length`, moved by shifts that `advance_shift` gives.
+pub fn moved_length(length: u16, on_shift: i64, off_shift: i64) -> i64 {
+    i64::from(length) + on_shift - off_shift
+}
+
 /// What is derived from rpm; it changes only with an update or a start.
 #[derive(Clone, Copy, Debug, PartialEq, Eq)]
 pub struct Reading {

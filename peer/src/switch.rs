@@ -6,7 +6,7 @@ use crate::limit_block::{
     advances, anded_detector, block_pair, pulse_errors, setpoint_errors, switch_type, SwitchType,
     ENABLE_BIT, PAIRS,
 };
-use crate::motion::{advance_shift, moved_setpoint, STEPS_PER_MS};
+use crate::motion::{advance_shift, moved_length, moved_setpoint, STEPS_PER_MS};
 use crate::pair::{distance, Pair};
 use crate::pulse::pulse_holds;
 
@@ -20,7 +20,8 @@ pub(crate) enum Action {
     Timed { steps: u32 },
 }
 
-/// Counts from `start` on, in which a pair moved by its advances holds.
+/// Counts from `start` on, in which a pair moved by its advances holds: 0 to
+/// SF of them.
 #[derive(Clone, Copy, Debug, Default, PartialEq, Eq)]
 struct Window {
     start: u16,
@@ -28,6 +29,12 @@ struct Window {
 }
 
 impl Window {
+    /// At a length of 0 or less a pair never holds, at SF or more always.
+    fn of_length(start: u16, length: i64, scale: u16) -> Window {
+        let length = length.clamp(0, i64::from(scale)) as u16;
+        Window { start, length }
+    }
+
     fn holds(self, position: u16, scale: u16) -> bool {
         distance(self.start, position, scale) < self.length
     }
@@ -142,23 +149,27 @@ impl Switch {
 
     /// Moves the used pairs by the advances. 0/0 is judged unmoved.
     pub fn place(&mut self, c: i32, scale: u16) {
-        let [on_shift, off_shift] = self
-            .advances
-            .map(|advance| advance_shift(advance, c, scale));
+        let [on_shift, off_shift] = self.shifts(c, scale);
         self.used = 0;
         for pair in self.pairs.iter().filter(|pair| !pair.is_unused()) {
             let start = moved_setpoint(pair.on, on_shift, scale);
-            let length = match self.action {
+            let length = pair.length(scale);
+            self.windows[self.used] = match self.action {
                 // A pulse train keeps its length.
-                Action::Pulse { .. } => pair.length(scale),
+                Action::Pulse { .. } => Window { start, length },
                 Action::Normal | Action::Timed { .. } => {
-                    let end = moved_setpoint(pair.off, off_shift, scale);
-                    distance(start, end, scale)
+                    let length = moved_length(length, on_shift, off_shift);
+                    Window::of_length(start, length, scale)
                 }
             };
-            self.windows[self.used] = Window { start, length };
             self.used += 1;
         }
+    }
+
+    /// ON and OFF shift at a c.
+    fn shifts(&self, c: i32, scale: u16) -> [i64; 2] {
+        self.advances
+            .map(|advance| advance_shift(advance, c, scale))
     }
 
     pub fn restart_timer(&mut self) {

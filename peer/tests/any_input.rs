@@ -183,7 +183,9 @@ fn programs_take_any_bytes() {
 
 #[test]
 fn leaf_functions_take_any_numbers() {
-    use peer::motion::{advance_shift, machine_position, moved_setpoint, movement, rpm, tach};
+    use peer::motion::{
+        advance_shift, machine_position, moved_length, moved_setpoint, movement, rpm, tach,
+    };
     use peer::pair::{pair_holds, Pair};
     use peer::pulse::{pulse_holds, pulse_start, pulses_fit, pulses_touch};
     use peer::setup::Scalars;
@@ -207,6 +209,7 @@ fn leaf_functions_take_any_numbers() {
                 tach(u32::MAX, scalars);
                 let shift = advance_shift(a as i16, i32::MIN, b);
                 moved_setpoint(c, shift, b);
+                moved_length(a, shift, advance_shift(c as i16, i32::MIN, b));
             }
             pulses_touch(a, b, a, b);
             moved_setpoint(a, i64::MIN, b);

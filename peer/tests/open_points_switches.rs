@@ -27,15 +27,14 @@ fn minus(advance: u16) -> u16 {
     advance.wrapping_neg()
 }
 
+/// Its example; the length is that of request 5 of document 02.
 #[test]
-fn p30_moved_pair_may_collapse_or_cross() {
+fn p30_moved_pair_may_collapse_but_not_cross() {
     let block = [0, 0, BY_C, 100, 110];
     assert_eq!(held(&block, 0), (100..110).collect::<Vec<u16>>());
     assert_eq!(held(&block, 9), [100]);
     assert_eq!(held(&block, 10), []);
-    let crossed = held(&block, 11);
-    assert_eq!(crossed.len(), 1023);
-    assert!(!crossed.contains(&99));
+    assert_eq!(held(&block, 11), []);
 }
 
 #[test]
@@ -66,8 +65,8 @@ fn p31_0_0_is_judged_unmoved() {
     assert_eq!(held(&[TIMED, 0, minus(100), 0, 0, 9999], 48), []);
     assert_eq!(held(&[PULSE, 0, minus(100), 0, 0, 1, 5], 48), []);
     // A pair that moves to 0/0 is empty, one that moves to 0/1 is not.
-    assert_eq!(held(&[0, BY_C, 0, 5, 0], 5), []);
-    assert_eq!(held(&[0, BY_C, 0, 5, 1], 5), [0]);
+    assert_eq!(held(&[0, 0, BY_C, 0, 5], 5), []);
+    assert_eq!(held(&[0, 0, BY_C, 0, 6], 5), [0]);
 }
 
 #[test]

@@ -9,8 +9,8 @@ use std::thread;
 use std::time::{Duration, Instant};
 
 use crate::generate::{
-    byte_list, cycle_list, damaged_trace, extreme_list, frame_list, press_list, step_list,
-    whole_trace, CallList, Extremes, StopPresses, USUAL_SAMPLES, USUAL_STEPS,
+    byte_list, cycle_list, damaged_trace, extreme_list, frame_list, length_list, press_list,
+    step_list, whole_trace, CallList, Extremes, Lengths, StopPresses, USUAL_SAMPLES, USUAL_STEPS,
 };
 
 /// Inputs compared at the same time.
@@ -27,6 +27,7 @@ pub enum InputKind {
     Steps,
     Presses,
     Extremes,
+    Lengths,
     Bytes,
     Frames,
     Traces,
@@ -40,6 +41,7 @@ impl InputKind {
             InputKind::Steps,
             InputKind::Presses,
             InputKind::Extremes,
+            InputKind::Lengths,
             InputKind::Bytes,
             InputKind::Frames,
             InputKind::Traces,
@@ -55,6 +57,7 @@ impl InputKind {
             InputKind::Steps => "steps",
             InputKind::Presses => "presses",
             InputKind::Extremes => "extremes",
+            InputKind::Lengths => "lengths",
             InputKind::Bytes => "bytes",
             InputKind::Frames => "frames",
             InputKind::Traces => "traces",
@@ -66,8 +69,18 @@ impl InputKind {
         match self {
             InputKind::Cycles => Input::of_list(&cycle_list(seed)),
             InputKind::Steps => Input::of_list(&step_list(seed, USUAL_STEPS)),
-            InputKind::Presses => Input::of_presses(&press_list(seed)),
-            InputKind::Extremes => Input::of_extremes(&extreme_list(seed)),
+            InputKind::Presses => Input::of_counted_list(&press_list(seed), |list| Counted {
+                presses: StopPresses::of_list(list),
+                ..Counted::default()
+            }),
+            InputKind::Extremes => Input::of_counted_list(&extreme_list(seed), |list| Counted {
+                extremes: Extremes::of_list(list),
+                ..Counted::default()
+            }),
+            InputKind::Lengths => Input::of_counted_list(&length_list(seed), |list| Counted {
+                lengths: Lengths::of_list(list),
+                ..Counted::default()
+            }),
             InputKind::Bytes => Input::of_list(&byte_list(seed)),
             InputKind::Frames => Input::of_list(&frame_list(seed)),
             InputKind::Traces => Input::of_trace(whole_trace(seed, USUAL_SAMPLES)),
@@ -80,10 +93,7 @@ struct Input {
     bytes: Arc<[u8]>,
     /// Lines that must come out of a list.
     lines: Option<usize>,
-    /// First Cycle presses in the steps of stops, where the lists are made
-    /// for them; likewise the ends of C.
-    presses: StopPresses,
-    extremes: Extremes,
+    counted: Counted,
 }
 
 impl Input {
@@ -91,21 +101,13 @@ impl Input {
         Input {
             bytes: list.bytes().into(),
             lines: Some(list.lines()),
-            presses: StopPresses::default(),
-            extremes: Extremes::default(),
+            counted: Counted::default(),
         }
     }
 
-    fn of_presses(list: &CallList) -> Input {
+    fn of_counted_list(list: &CallList, count: fn(&CallList) -> Counted) -> Input {
         Input {
-            presses: StopPresses::of_list(list),
-            ..Input::of_list(list)
-        }
-    }
-
-    fn of_extremes(list: &CallList) -> Input {
-        Input {
-            extremes: Extremes::of_list(list),
+            counted: count(list),
             ..Input::of_list(list)
         }
     }
@@ -114,9 +116,27 @@ impl Input {
         Input {
             bytes: bytes.into(),
             lines: None,
-            presses: StopPresses::default(),
-            extremes: Extremes::default(),
+            counted: Counted::default(),
         }
+    }
+}
+
+/// What lists have of that which they are made for; 0 for lists of another
+/// kind.
+#[derive(Clone, Copy, Debug, Default, PartialEq, Eq)]
+pub struct Counted {
+    pub presses: StopPresses,
+    pub extremes: Extremes,
+    pub lengths: Lengths,
+}
+
+impl Counted {
+    fn add(&mut self, other: &Counted) {
+        self.presses.steps += other.presses.steps;
+        self.presses.counted += other.presses.counted;
+        self.extremes.least += other.extremes.least;
+        self.extremes.greatest += other.extremes.greatest;
+        self.lengths.add(&other.lengths);
     }
 }
 
@@ -130,28 +150,27 @@ pub struct Totals {
     pub steps: u64,
     /// Those of them that are byte reads or writes.
     pub byte_accesses: u64,
-    /// What the lists of presses have of them.
-    pub presses: StopPresses,
-    /// What the lists of extremes have of them.
-    pub extremes: Extremes,
+    pub counted: Counted,
     /// Lists on which the programs differed or one of them failed.
     pub differences: u64,
 }
 
 impl Totals {
     /// The last line of a comparison; it counts byte accesses, presses in the
-    /// steps of stops or ends of C, where the lists are made for them.
+    /// steps of stops, ends of C or lengths, where the lists are made for
+    /// them.
     pub fn line(&self, kind: InputKind) -> String {
         let counted = match kind {
             InputKind::Bytes => format!(", {} byte accesses", self.byte_accesses),
             InputKind::Presses => {
-                let StopPresses { steps, counted } = self.presses;
+                let StopPresses { steps, counted } = self.counted.presses;
                 format!(", {steps} presses in stop steps, {counted} of them counted")
             }
             InputKind::Extremes => {
-                let Extremes { least, greatest } = self.extremes;
+                let Extremes { least, greatest } = self.counted.extremes;
                 format!(", {least} windows at the least C, {greatest} at the greatest")
             }
+            InputKind::Lengths => format!(", {}", self.counted.lengths),
             _ => String::new(),
         };
         format!(
@@ -165,10 +184,7 @@ impl Totals {
         self.calls += result.calls;
         self.steps += result.steps;
         self.byte_accesses += result.byte_accesses;
-        self.presses.steps += result.presses.steps;
-        self.presses.counted += result.presses.counted;
-        self.extremes.least += result.extremes.least;
-        self.extremes.greatest += result.extremes.greatest;
+        self.counted.add(&result.counted);
         self.differences += u64::from(result.difference.is_some());
     }
 }
@@ -177,8 +193,7 @@ struct ListResult {
     calls: u64,
     steps: u64,
     byte_accesses: u64,
-    presses: StopPresses,
-    extremes: Extremes,
+    counted: Counted,
     difference: Option<String>,
 }
 
@@ -236,8 +251,7 @@ impl Programs<'_> {
             calls: count(|_| true),
             steps: count(is_step),
             byte_accesses: count(is_byte_access),
-            presses: input.presses,
-            extremes: input.extremes,
+            counted: input.counted,
             difference: self
                 .difference(&outputs, input.lines)
                 .map(|difference| format!("{} seed {seed}: {difference}", kind.name())),

@@ -7,7 +7,7 @@ use crate::setup::{Detector, Scalars, Setup};
 /// Counts of the transducer in one turn.
 pub const TURN: u16 = 1024;
 /// Steps between two updates of c.
-const ADVANCE_STEPS: u16 = 120;
+pub(crate) const ADVANCE_STEPS: u16 = 120;
 /// Steps in one ms.
 pub const STEPS_PER_MS: u32 = 5;
 const HIGHEST_TACH: u64 = 32767;

@@ -149,19 +149,12 @@ impl Switch {
 
     /// Moves the used pairs by the advances. 0/0 is judged unmoved.
     pub fn place(&mut self, c: i32, scale: u16) {
-        let [on_shift, off_shift] = self.shifts(c, scale);
+        let shifts = self.shifts(c, scale);
         self.used = 0;
-        for pair in self.pairs.iter().filter(|pair| !pair.is_unused()) {
-            let start = moved_setpoint(pair.on, on_shift, scale);
-            let length = pair.length(scale);
-            self.windows[self.used] = match self.action {
-                // A pulse train keeps its length.
-                Action::Pulse { .. } => Window { start, length },
-                Action::Normal | Action::Timed { .. } => {
-                    let length = moved_length(length, on_shift, off_shift);
-                    Window::of_length(start, length, scale)
-                }
-            };
+        for &pair in self.pairs.iter().filter(|pair| !pair.is_unused()) {
+            let start = moved_setpoint(pair.on, shifts[0], scale);
+            let length = self.length(pair, shifts, scale);
+            self.windows[self.used] = Window::of_length(start, length, scale);
             self.used += 1;
         }
     }
@@ -170,6 +163,23 @@ impl Switch {
     fn shifts(&self, c: i32, scale: u16) -> [i64; 2] {
         self.advances
             .map(|advance| advance_shift(advance, c, scale))
+    }
+
+    /// The length of a used pair moved by these shifts; a pulse train keeps
+    /// its own.
+    fn length(&self, pair: Pair, [on_shift, off_shift]: [i64; 2], scale: u16) -> i64 {
+        let length = pair.length(scale);
+        match self.action {
+            Action::Pulse { .. } => i64::from(length),
+            Action::Normal | Action::Timed { .. } => moved_length(length, on_shift, off_shift),
+        }
+    }
+
+    /// The lengths of the used pairs at a c.
+    pub(crate) fn lengths(&self, c: i32, scale: u16) -> impl Iterator<Item = i64> + '_ {
+        let shifts = self.shifts(c, scale);
+        let used = self.pairs.iter().filter(|pair| !pair.is_unused());
+        used.map(move |&pair| self.length(pair, shifts, scale))
     }
 
     pub fn restart_timer(&mut self) {
@@ -275,7 +285,7 @@ impl Switches {
 }
 
 /// The numbers of the set bits, from 0, rising.
-fn bits_of(mut set: u32) -> impl Iterator<Item = usize> {
+pub(crate) fn bits_of(mut set: u32) -> impl Iterator<Item = usize> {
     std::iter::from_fn(move || {
         let bit = set.trailing_zeros();
         set &= set.wrapping_sub(1);

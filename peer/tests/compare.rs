@@ -7,7 +7,7 @@ use std::time::{Duration, Instant};
 
 use common::{run_program, run_with_arguments};
 use peer::compare::{InputKind, Programs};
-use peer::generate::{extreme_list, press_list, Extremes, StopPresses};
+use peer::generate::{extreme_list, length_list, press_list, Extremes, Lengths, StopPresses};
 
 const REPLAY: &str = env!("CARGO_BIN_EXE_replay");
 const CAMRUN: &str = env!("CARGO_BIN_EXE_camrun");
@@ -141,6 +141,31 @@ fn windows_at_the_ends_of_c_are_counted() {
         &format!("{least} windows at the least C, {greatest} at the greatest"),
     );
     assert!(least > 3 && greatest > 3);
+}
+
+#[test]
+fn lengths_are_counted() {
+    let mut lengths = Lengths::default();
+    for seed in 1..=10 {
+        lengths.add(&Lengths::of_list(&length_list(seed)));
+    }
+    let Lengths {
+        below_zero,
+        zero,
+        one,
+        all_but_one,
+        all,
+        over_all,
+    } = lengths;
+    assert_counted(
+        "lengths",
+        &format!(
+            "{below_zero} lengths below 0, {zero} at 0, {one} at 1, \
+             {all_but_one} at SF less 1, {all} at SF, {over_all} over SF"
+        ),
+    );
+    let least = [below_zero, zero, one, all_but_one, all, over_all];
+    assert!(least.iter().all(|&count| count > 10_000), "{least:?}");
 }
 
 /// The replay program's lines for a list.

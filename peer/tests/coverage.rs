@@ -4,7 +4,8 @@
 use std::collections::BTreeMap;
 
 use peer::generate::{
-    byte_list, cycle_list, extreme_list, frame_list, press_list, step_list, CallList, USUAL_STEPS,
+    byte_list, cycle_list, extreme_list, frame_list, length_list, press_list, step_list, CallList,
+    USUAL_STEPS,
 };
 use peer::replay;
 
@@ -179,6 +180,27 @@ fn lists_of_bytes_reach_every_answer() {
 }
 
 #[test]
+fn lists_of_lengths_have_cycles_in_mid_run() {
+    let calls = answered((1..=60).map(length_list));
+    for (name, least) in [
+        ("step 0", 200_000),
+        ("step 11", 50),
+        ("setup 0", 60),
+        ("group 0", 60),
+        ("limit 0", 200),
+        ("nudge 0", 200),
+        ("nudge 10", 20),
+        ("read 0", 1000),
+    ] {
+        assert!(calls.of(name) > least, "seldom seen: {name}");
+    }
+    calls.assert_all_seen(names("setup", "idle 6"));
+    calls.assert_all_seen(names("group", "idle 7"));
+    calls.assert_all_seen(names("limit", "idle 8"));
+    calls.assert_all_seen(names("nudge", "idle 5 9"));
+}
+
+#[test]
 fn other_lists_have_byte_accesses() {
     let steps = answered((1..=20).map(|seed| step_list(seed, USUAL_STEPS)));
     let cycles = answered((1..=100).map(cycle_list));
@@ -191,7 +213,14 @@ fn other_lists_have_byte_accesses() {
 
 #[test]
 fn a_seed_gives_one_list_and_another_seed_another() {
-    for list in [cycle_list, frame_list, byte_list, press_list, extreme_list] {
+    for list in [
+        cycle_list,
+        frame_list,
+        byte_list,
+        press_list,
+        extreme_list,
+        length_list,
+    ] {
         assert_eq!(list(7), list(7));
         assert_ne!(list(7).bytes(), list(8).bytes());
     }
@@ -217,5 +246,6 @@ fn every_call_is_answered() {
     for seed in 0..10 {
         assert_answered(&press_list(seed));
         assert_answered(&extreme_list(seed));
+        assert_answered(&length_list(seed));
     }
 }

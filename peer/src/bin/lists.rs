@@ -4,13 +4,14 @@
 use std::process::ExitCode;
 
 use peer::generate::{
-    byte_list, cycle_list, extreme_list, frame_list, press_list, step_list, CallList, USUAL_STEPS,
+    byte_list, cycle_list, extreme_list, frame_list, length_list, press_list, step_list, CallList,
+    USUAL_STEPS,
 };
 use peer::words;
 
 fn main() -> ExitCode {
     words::write_from_arguments(
-        "lists cycles|presses|extremes|bytes|frames SEED | lists steps SEED [STEPS]",
+        "lists cycles|presses|extremes|lengths|bytes|frames SEED | lists steps SEED [STEPS]",
         |arguments| list(arguments).map(|list| list.bytes()),
     )
 }
@@ -22,6 +23,7 @@ fn list(arguments: &[&str]) -> Option<CallList> {
         ["steps", seed, steps] => step_list(seed.parse().ok()?, steps.parse().ok()?),
         ["presses", seed] => press_list(seed.parse().ok()?),
         ["extremes", seed] => extreme_list(seed.parse().ok()?),
+        ["lengths", seed] => length_list(seed.parse().ok()?),
         ["bytes", seed] => byte_list(seed.parse().ok()?),
         ["frames", seed] => frame_list(seed.parse().ok()?),
         _ => return None,

@@ -51,8 +51,9 @@ impl Extremes {
     pub fn of_list(list: &CallList) -> Extremes {
         let mut extremes = Extremes::default();
         each_step(list, |step| {
-            extremes.least += u64::from(step.update && step.big_c == LEAST_C);
-            extremes.greatest += u64::from(step.update && step.big_c == GREATEST_C);
+            let big_c = step.module.motion.big_c;
+            extremes.least += u64::from(step.update && big_c == LEAST_C);
+            extremes.greatest += u64::from(step.update && big_c == GREATEST_C);
         });
         extremes
     }
@@ -80,7 +81,7 @@ mod tests {
     fn no_sum_passes_an_end() {
         for seed in 0..LISTS {
             each_step(&extreme_list(seed), |step| {
-                assert!((LEAST_C..=GREATEST_C).contains(&step.big_c));
+                assert!((LEAST_C..=GREATEST_C).contains(&step.module.motion.big_c));
             });
         }
     }

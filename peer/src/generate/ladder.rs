@@ -122,7 +122,8 @@ impl Ladder {
         self.sound_cycle_of(FileKind::Setup, program);
     }
 
-    fn sound_cycle_of(&mut self, kind: FileKind, program: Program) {
+    /// A cycle with the sound words of a program.
+    pub fn sound_cycle_of(&mut self, kind: FileKind, program: Program) {
         let clear = !self.numbers.one_in(6);
         self.send(kind, &program, clear);
         let barred = kind == FileKind::Group && self.program.is_independent();
@@ -167,7 +168,7 @@ impl Ladder {
         program.draw_quick_setup(&mut self.numbers);
         self.sound_cycle_of(FileKind::Setup, program);
         let mut program = self.program.clone();
-        program.draw_mode_5_groups(&mut self.numbers);
+        program.draw_groups_in(&mut self.numbers, 5);
         self.sound_cycle_of(FileKind::Group, program);
         let mut program = self.program.clone();
         program.draw_showing_limits(&mut self.numbers);

@@ -17,6 +17,7 @@ mod frame_coverage;
 mod frame_lists;
 mod frame_parts;
 mod ladder;
+mod length_lists;
 mod numbers;
 #[cfg(test)]
 mod press_coverage;
@@ -33,6 +34,7 @@ pub use call_list::CallList;
 pub use cycle_lists::cycle_list;
 pub use extreme_lists::{extreme_list, Extremes};
 pub use frame_lists::frame_list;
+pub use length_lists::{length_list, Lengths};
 pub use press_lists::press_list;
 pub use step_lists::{step_list, USUAL_STEPS};
 pub use stops::StopPresses;

@@ -58,6 +58,11 @@ impl Program {
         self.m0[0] & MODULE_TYPE != 0
     }
 
+    /// The position falls where the raw position rises.
+    pub fn counts_down(&self) -> bool {
+        self.m0[0] & COUNT_DIRECTION != 0
+    }
+
     /// Steps from one update of the speed to the next.
     pub fn window_steps(&self) -> u32 {
         window_ms(self.m0[0] & TACH_RESPONSE != 0) * STEPS_PER_MS
@@ -147,13 +152,13 @@ impl Program {
         self.m0[0] &= !TACH_RESPONSE;
     }
 
-    /// Draws group blocks, most of them in Mode 5.
-    pub fn draw_mode_5_groups(&mut self, numbers: &mut Numbers) {
+    /// Draws group blocks, most of them in one mode.
+    pub fn draw_groups_in(&mut self, numbers: &mut Numbers, mode: u16) {
         self.draw_groups(numbers);
         for group in 0..GROUPS {
             let control = &mut self.m0[group_block_at(group)];
             if *control & GROUP_USED != 0 && !numbers.one_in(8) {
-                *control = *control & !MODE_BITS | 5 << MODE_SHIFT;
+                *control = *control & !MODE_BITS | mode << MODE_SHIFT;
                 if self.real_count == 0 {
                     *control |= FIRST_CYCLE_VIRTUAL;
                 }
@@ -179,8 +184,9 @@ impl Program {
         }
     }
 
-    /// Another SF or mode drops groups and limits.
-    fn draw_setup(&mut self, numbers: &mut Numbers, scale: u16, independent: bool) {
+    /// Draws setup words with an SF and a mode: others than are in force drop
+    /// groups and limits.
+    pub fn draw_setup(&mut self, numbers: &mut Numbers, scale: u16, independent: bool) {
         if scale != self.scale() || independent != self.is_independent() {
             self.m0[GROUP_COMMAND..].fill(0);
             self.m1.fill(0);
@@ -305,7 +311,7 @@ fn draw_count(numbers: &mut Numbers, scale: u16) -> u16 {
 }
 
 /// A pair that is neither 0/0 nor equal: short, long or over zero.
-fn draw_pair(numbers: &mut Numbers, scale: u16) -> Pair {
+pub fn draw_pair(numbers: &mut Numbers, scale: u16) -> Pair {
     let on = draw_count(numbers, scale);
     let length = match numbers.below(6) {
         0 => 1,
@@ -416,15 +422,20 @@ pub fn draw_limit_block(numbers: &mut Numbers, kind: u16, scale: u16) -> [u16; L
     block
 }
 
-fn draw_anding(numbers: &mut Numbers) -> u16 {
+pub fn draw_anding(numbers: &mut Numbers) -> u16 {
     let enable = if numbers.one_in(6) { ENABLE_BIT } else { 0 };
     let detector = numbers.pick(&[0, 0, 0, 0, 1, 2]);
     enable | detector << DETECTOR_SHIFT
 }
 
 fn draw_advance(numbers: &mut Numbers) -> u16 {
-    let any = numbers.between(0, 2 * HIGHEST_ADVANCE as u16) as i16 - HIGHEST_ADVANCE;
+    let any = draw_any_advance(numbers);
     numbers.pick(&[0, 0, 0, 1, -1, 20, -20, 999, -999, any]) as u16
+}
+
+/// From −999 to 999.
+pub fn draw_any_advance(numbers: &mut Numbers) -> i16 {
+    numbers.between(0, 2 * HIGHEST_ADVANCE as u16) as i16 - HIGHEST_ADVANCE
 }
 
 /// One to eight used pairs among the eight; now and then none at all.

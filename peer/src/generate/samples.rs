@@ -2,6 +2,7 @@
 
 use crate::generate::numbers::Numbers;
 use crate::generate::program::Program;
+use crate::motion::ADVANCE_STEPS;
 use crate::step::{FIRST_CYCLE, SAMPLE_WORDS};
 
 /// Parts of a count in which position and speed are kept.
@@ -21,6 +22,8 @@ enum Motion {
     /// So many counts back after each update of the speed, and forward again
     /// in the next one.
     Backed(i64),
+    /// So many counts from one update of c to the next: two numbers in turn.
+    Paced([i32; 2]),
 }
 
 impl Motion {
@@ -202,6 +205,21 @@ impl Samples {
         2 * window - self.steps % window + numbers.below(3)
     }
 
+    /// The machine runs so that c becomes these two numbers in turn; most
+    /// inputs are active.
+    pub fn draw_paced(&mut self, numbers: &mut Numbers, program: &Program, paces: [i32; 2]) {
+        let direction = if program.counts_down() { -1 } else { 1 };
+        self.motion = Motion::Paced(paces.map(|pace| direction * pace));
+        for inputs in [&mut self.real, &mut self.virt] {
+            inputs.draw(numbers);
+            if !numbers.one_in(4) {
+                inputs.active = 0xffff;
+                inputs.rarity = numbers.pick(&[0, 0, 10]);
+            }
+        }
+        self.forces.every = numbers.pick(&[0, 0, 200]);
+    }
+
     /// The machine stands; tells for how many samples, a stop being among
     /// them.
     pub fn draw_stand(&mut self, numbers: &mut Numbers, program: &Program) -> u32 {
@@ -253,6 +271,13 @@ impl Samples {
                 1 => -counts,
                 _ => 0,
             },
+            Motion::Paced(paces) => {
+                let window = u32::from(ADVANCE_STEPS);
+                let (windows, step) = ((self.steps - 1) / window, (self.steps - 1) % window);
+                let pace = i64::from(paces[windows as usize % 2]);
+                let counts = |steps: u32| (pace * i64::from(steps)).div_euclid(window.into());
+                (counts(step + 1) - counts(step)) * PARTS
+            }
         };
         self.position = (self.position + speed).rem_euclid(1024 * PARTS);
     }

@@ -52,8 +52,8 @@ pub(crate) struct SeenStep<'a> {
     /// It updates the speed.
     pub update: bool,
     pub rpm: u32,
-    /// C, at the last update.
-    pub big_c: i32,
+    /// The module after it.
+    pub module: &'a Module,
 }
 
 impl<'a> SeenStep<'a> {
@@ -87,7 +87,7 @@ pub(crate) fn each_step(list: &CallList, mut see: impl FnMut(SeenStep)) {
                     after: &module.groups,
                     update,
                     rpm: answer.rpm,
-                    big_c: module.motion.big_c,
+                    module,
                 });
             }
             (Call::File(cycle, mut file), Some(module)) => {

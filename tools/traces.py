@@ -138,6 +138,31 @@ def bottle_samples():
     return samples
 
 
+def fast_line():
+    """An 8512 at SF 1024 that comes up from 293 rpm over 879 to 1,400, with dwells whose ON and OFF advance differ.
+
+    At 1,400 rpm c is 573 or 574: an advance of 2.0 ms shifts by 47 counts, 2.5 ms by 59, 4.0 ms by 95, 6.0 ms by 143.
+    """
+    limit_words = limits(
+        {
+            1: limit(NORMAL, [300, 320], (20, 25)),  # glue: 20 counts, 8 at 1,400 rpm
+            2: limit(NORMAL, [300, 320], (20, 40)),  # glue: 28 counts less than none at 1,400 rpm
+            3: limit(NORMAL, [300, 320], (60, 40)),  # 68 counts at 1,400 rpm
+            4: limit(NORMAL, [0, 900], (60, 0)),  # more than a turn at 1,400 rpm
+            5: limit(TIMED, [0, 900, 10], (60, 0)),  # the same pair, on for 10 ms each time it begins
+            6: limit(PULSE, [300, 320, 3, 4], (20, 40)),  # keeps its length
+        }
+    )
+    return trace(8512, setup(1024, RESPONSE_120_MS), groups(group(0, 6)), limit_words, fast_samples())
+
+
+def fast_samples():
+    slow = list(range(360))  # a count a step
+    faster = [slow[-1] + 3 * n for n in range(1, 121)]
+    fast = [faster[-1] + n * 1792 // 375 for n in range(1, 1021)]  # 1,400 rpm
+    return [sample(count % 1024) for count in slow + faster + fast]
+
+
 def independent_card():
     """An 8512 in Independent Mode at SF 360 and 600 rpm. Active states are 0: an input without current is active.
 
@@ -191,7 +216,7 @@ def resolver_fault():
     return trace(8512, setup(1000, RESPONSE_120_MS), group_words, limit_words, samples)
 
 
-RUNS = (example, carton_line, bottle_line, independent_card, resolver_fault)
+RUNS = (example, carton_line, bottle_line, fast_line, independent_card, resolver_fault)
 TRACES = {make.__name__: make for make in RUNS + refused_traces.TRACES + damaged_traces.TRACES}
 
 

@@ -113,7 +113,7 @@ within-a-turn t c l k p h m =
     (ap (λ (b : Bool). used l k && b) (unreduced t (ahead (t + 1) (movedOn (t + 1) c l k) (countAt p)) _ h m))
 
 -- With equal shifts the length is that of the pair as programmed.
-equal-length : (t : ℕ) (c : ℤ) (l : Limit) (k : ℕ) → onShift (t + 1) c l ≡ offShift (t + 1) c l → pairLength (t + 1) c l k ≡ pos (ahead (t + 1) (onSetpoint l k) (offSetpoint l k))
+pub equal-length : (t : ℕ) (c : ℤ) (l : Limit) (k : ℕ) → onShift (t + 1) c l ≡ offShift (t + 1) c l → pairLength (t + 1) c l k ≡ pos (ahead (t + 1) (onSetpoint l k) (offSetpoint l k))
 unfolding pairLength
 equal-length t c l k e =
     ap (λ (s : ℤ). pos (ahead (t + 1) (onSetpoint l k) (offSetpoint l k)) +ℤ s -ℤ offShift (t + 1) c l) e

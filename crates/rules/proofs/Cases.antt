@@ -14,7 +14,9 @@ use Rattle.rules.specs.Counts.{ahead, holds}
 use Rattle.rules.specs.Switches.{moved, pulseHolds}
 use Rattle.rules.specs.LimitWords.{pulseBad, pulsesTouch}
 use Rattle.rules.specs.Card.{freshGroup}
-use Rattle.rules.specs.Cases.{Case, tach, speed, advance, pulses, fits, pair, group, tests, numbers, integers, cases, lettered, ofWords, ofMotion, ofGroups, ofLengths, ofSwitches, ofCycles, ofSetup, ofGroupWords, ofLimitWords, ofNudge, ofReader, ofBus, ofTrace, flags, showing, busBits, writeBits, switchAt, positionsWith, mode4Group, stepEvent, openings, someSetup, someGroups, threeSwitches, Says}
+use Rattle.rules.specs.Cases.{Case, tach, speed, advance, pulses, fits, pair, group, tests, numbers, integers, Says}
+use Rattle.rules.specs.Cases.{cases, lettered, ofWords, ofMotion, ofGroups, ofLengths, ofSwitches, ofCycles, ofSetup, ofGroupWords, ofLimitWords, ofNudge, ofReader, ofBus, ofTrace}
+use Rattle.rules.specs.Cases.{flags, showing, busBits, writeBits, switchAt, positionsWith, mode4Group, stepEvent, openings, someSetup, someGroups, threeSwitches}
 use Rattle.rules.proofs.Computes.{trace}
 
 -- ---- Tests of equality

@@ -67,25 +67,24 @@ against : (z : ℤ) → negℤ z ≡ pos (down z) -ℤ pos (up z)
 against (pos n) = sym (+ℤ-idl (negℤ (pos n)))
 against (negsuc n) = ap pos (omega arith)
 
--- x + z, and x − z
-pub plus : (x : ℕ) (z : ℤ) → pos x +ℤ z ≡ subℕ (x + up z) (down z)
-plus x z =
-    ap (λ (v : ℤ). pos x +ℤ v) (as-difference z)
-    ∙ ap (λ (v : ℤ). v +ℤ (pos (up z) -ℤ pos (down z))) (as-difference (pos x))
-    ∙ add-differences x 0 (up z) (down z)
-    ∙ minus (x + up z) (0 + down z)
-    ∙ ap (subℕ (x + up z)) (omega arith)
+-- x + (a − b)
+pub summed : (x a b : ℕ) (z : ℤ) → z ≡ pos a -ℤ pos b → pos x +ℤ z ≡ subℕ (x + a) b
+summed x a b z e =
+    ap (λ (v : ℤ). pos x +ℤ v) e
+    ∙ ap (λ (v : ℤ). v +ℤ (pos a -ℤ pos b)) (as-difference (pos x))
+    ∙ add-differences x 0 a b
+    ∙ minus (x + a) (0 + b)
+    ∙ ap (subℕ (x + a)) (omega arith)
 
-pub less : (x : ℕ) (z : ℤ) → pos x -ℤ z ≡ subℕ (x + down z) (up z)
-less x z =
-    ap (λ (v : ℤ). pos x +ℤ v) (against z)
-    ∙ ap (λ (v : ℤ). v +ℤ (pos (down z) -ℤ pos (up z))) (as-difference (pos x))
-    ∙ add-differences x 0 (down z) (up z)
-    ∙ minus (x + down z) (0 + up z)
-    ∙ ap (subℕ (x + down z)) (omega arith)
+-- x + z, and x − z
+plus : (x : ℕ) (z : ℤ) → pos x +ℤ z ≡ subℕ (x + up z) (down z)
+plus x z = summed x (up z) (down z) z (as-difference z)
+
+less : (x : ℕ) (z : ℤ) → pos x -ℤ z ≡ subℕ (x + down z) (up z)
+less x z = summed x (down z) (up z) (negℤ z) (against z)
 
 -- x + s − z
-pub both-shifts : (x : ℕ) (s z : ℤ) → pos x +ℤ s -ℤ z ≡ subℕ (x + up s + down z) (down s + up z)
+both-shifts : (x : ℕ) (s z : ℤ) → pos x +ℤ s -ℤ z ≡ subℕ (x + up s + down z) (down s + up z)
 both-shifts x s z =
     ap (λ (v : ℤ). v -ℤ z) (plus x s ∙ sym (minus (x + up s) (down s)))
     ∙ ap (λ (v : ℤ). (pos (x + up s) -ℤ pos (down s)) +ℤ v) (against z)

@@ -35,7 +35,7 @@ add-differences a b c d =
     exchange (pos a) (negℤ (pos b)) (pos c) (negℤ (pos d)) ∙ ap (λ (z : ℤ). pos (a + c) +ℤ z) (sym (negℤ-+ℤ (pos b) (pos d)))
 
 -- (a − b) + c
-pub difference-add : (a b c : ℕ) → subℕ a b +ℤ pos c ≡ subℕ (a + c) b
+difference-add : (a b c : ℕ) → subℕ a b +ℤ pos c ≡ subℕ (a + c) b
 difference-add a b c =
     let e : c + 0 ≡ c = omega arith in
     let f : b + 0 ≡ b = omega arith in

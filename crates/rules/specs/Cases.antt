@@ -226,17 +226,6 @@ limitNumbers l =
 abbrev pub withMode : ℕ → Programming
 withMode command = noPrograms (setupBy 0 command 0)
 
--- the same with advances
-abbrev pub advanced : Limit → ℕ → ℕ → Limit
-advanced l on off = record {
-  action = l .action;
-  enable = l .enable;
-  detector = l .detector;
-  onadvance = record { negative = false; tenths = on };
-  offadvance = record { negative = false; tenths = off };
-  setpoints = l .setpoints;
-}
-
 -- an advance of so many tenths of a ms, and a negative one
 abbrev pub early : ℕ → Advance
 early tenths = record { negative = false; tenths = tenths }
@@ -244,16 +233,13 @@ early tenths = record { negative = false; tenths = tenths }
 abbrev pub late : ℕ → Advance
 late tenths = record { negative = true; tenths = tenths }
 
--- a normal switch of one pair with ON and OFF advance; the positions of the turn at which the pair holds
+-- the same switch with ON and OFF advance
+abbrev pub advanced : Limit → Advance → Advance → Limit
+advanced l on off = record { action = l .action; enable = l .enable; detector = l .detector; onadvance = on; offadvance = off; setpoints = l .setpoints }
+
+-- a normal switch of one pair, with advances; the positions of the turn at which the pair holds
 abbrev pub pairAdvanced : Advance → Advance → ℕ → ℕ → Limit
-pairAdvanced onadvance offadvance on off = record {
-  action = record { kind = 1; quantity = 0; count = 0; duration = 0 };
-  enable = false;
-  detector = 0;
-  onadvance = onadvance;
-  offadvance = offadvance;
-  setpoints = on ∷ off ∷ [];
-}
+pairAdvanced onadvance offadvance on off = advanced (switchAt 1 0 0 0 (on ∷ off ∷ [])) onadvance offadvance
 
 abbrev pub heldAt : ℕ → ℤ → Limit → List ℕ
 heldAt sf c l = positionsWith sf 0 (λ p. pairHolds sf c l 0 (OfMachine (record { 0 = p })))
@@ -381,10 +367,10 @@ ofLengths =
 unfoldable pub ofSwitches : List Case
 ofSwitches =
     -- with c 48 an advance of 10 ms moves a setpoint from 100 to 80 (SF 1024): ON by the ON advance, OFF by the OFF advance
-    tests (map (λ (p : ℕ). pairHolds 1024 (pos 48) (advanced (switchAt 1 0 0 0 (100 ∷ 200 ∷ [])) 100 0) 0 (OfGroup (record { 0 = p }))) (79 ∷ 80 ∷ 199 ∷ 200 ∷ [])) (false ∷ true ∷ true ∷ false ∷ [])
-    ∷ tests (map (λ (p : ℕ). pairHolds 1024 (pos 48) (advanced (switchAt 1 0 0 0 (100 ∷ 200 ∷ [])) 0 100) 0 (OfMachine (record { 0 = p }))) (99 ∷ 100 ∷ 179 ∷ 180 ∷ [])) (false ∷ true ∷ true ∷ false ∷ [])
+    tests (map (λ (p : ℕ). pairHolds 1024 (pos 48) (advanced (switchAt 1 0 0 0 (100 ∷ 200 ∷ [])) (early 100) (early 0)) 0 (OfGroup (record { 0 = p }))) (79 ∷ 80 ∷ 199 ∷ 200 ∷ [])) (false ∷ true ∷ true ∷ false ∷ [])
+    ∷ tests (map (λ (p : ℕ). pairHolds 1024 (pos 48) (advanced (switchAt 1 0 0 0 (100 ∷ 200 ∷ [])) (early 0) (early 100)) 0 (OfMachine (record { 0 = p }))) (99 ∷ 100 ∷ 179 ∷ 180 ∷ [])) (false ∷ true ∷ true ∷ false ∷ [])
     -- "0/0 is unused", moved or not
-    ∷ tests (map (λ (p : ℕ). pairHolds 1024 (pos 48) (advanced (switchAt 1 0 0 0 (0 ∷ 0 ∷ [])) 100 0) 0 (OfMachine (record { 0 = p }))) (0 ∷ 1004 ∷ 1010 ∷ [])) (false ∷ false ∷ false ∷ [])
+    ∷ tests (map (λ (p : ℕ). pairHolds 1024 (pos 48) (advanced (switchAt 1 0 0 0 (0 ∷ 0 ∷ [])) (early 100) (early 0)) 0 (OfMachine (record { 0 = p }))) (0 ∷ 1004 ∷ 1010 ∷ [])) (false ∷ false ∷ false ∷ [])
     -- a pair with one setpoint at 0 is used
     ∷ tests (map (λ (p : ℕ). pairHolds 1024 (pos 0) (switchAt 1 0 0 0 (1000 ∷ 0 ∷ [])) 0 (OfMachine (record { 0 = p }))) (999 ∷ 1000 ∷ 1023 ∷ 0 ∷ [])) (false ∷ true ∷ true ∷ false ∷ [])
     ∷ tests (map (λ (p : ℕ). pairHolds 1024 (pos 0) (switchAt 1 0 0 0 (0 ∷ 24 ∷ [])) 0 (OfMachine (record { 0 = p }))) (1023 ∷ 0 ∷ 23 ∷ 24 ∷ [])) (false ∷ true ∷ true ∷ false ∷ [])
@@ -392,7 +378,7 @@ ofSwitches =
     ∷ numbers (positionsWith 90 0 (λ p. normalHolds 1024 (pos 0) (switchAt 1 0 0 0 (1 ∷ 2 ∷ 11 ∷ 12 ∷ 21 ∷ 22 ∷ 31 ∷ 32 ∷ 41 ∷ 42 ∷ 51 ∷ 52 ∷ 61 ∷ 62 ∷ 71 ∷ 72 ∷ [])) (OfMachine (record { 0 = p }))))
     (1 ∷ 11 ∷ 21 ∷ 31 ∷ 41 ∷ 51 ∷ 61 ∷ 71 ∷ [])
     -- "R = (off − on) mod SF unmoved, .. from the ON setpoint moved by the ON advance": as e), moved by 20; the OFF advance moves nothing
-    ∷ numbers (positionsWith 130 0 (λ p. pulseHolds 1024 (pos 48) (advanced (switchAt 2 3 4 0 (100 ∷ 120 ∷ [])) 100 50) 3 4 (OfMachine (record { 0 = p }))))
+    ∷ numbers (positionsWith 130 0 (λ p. pulseHolds 1024 (pos 48) (advanced (switchAt 2 3 4 0 (100 ∷ 120 ∷ [])) (early 100) (early 50)) 3 4 (OfMachine (record { 0 = p }))))
     (80 ∷ 81 ∷ 82 ∷ 83 ∷ 88 ∷ 89 ∷ 90 ∷ 91 ∷ 96 ∷ 97 ∷ 98 ∷ 99 ∷ [])
     -- two pulses start at 0 and at R − K
     ∷ numbers (positionsWith 130 0 (λ p. pulseHolds 1024 (pos 0) (switchAt 2 2 3 0 (100 ∷ 120 ∷ [])) 2 3 (OfMachine (record { 0 = p })))) (100 ∷ 101 ∷ 102 ∷ 117 ∷ 118 ∷ 119 ∷ [])

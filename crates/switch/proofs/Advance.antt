@@ -12,8 +12,8 @@ use lib.Signed.{quotZ}
 use Rattle.rules.specs.Motion.{cValue}
 use Rattle.rules.specs.Counts.{ahead}
 use Rattle.rules.specs.Switches.{signed, advanceShift}
-use Rattle.rules.proofs.Laws.{minus, difference-add, mod-below, ahead-below}
-use Rattle.rules.proofs.Congruence.{congruent, modulo-only, ahead-gives}
+use Rattle.rules.proofs.Laws.{minus, mod-below, ahead-below}
+use Rattle.rules.proofs.Congruence.{congruent, modulo-only, ahead-gives, summed}
 use Rattle.switch.specs.Parts.{shiftBias, shiftCounts, takenBack}
 
 -- 0 has one sign
@@ -112,7 +112,7 @@ one-bias a b d =
 -- ---- A count taken back
 
 shifted : (p s b : ℕ) → pos p +ℤ subℕ s b ≡ subℕ (p + s) b
-shifted p s b = +ℤ-comm (pos p) (subℕ s b) ∙ difference-add s b p ∙ ap (λ (n : ℕ). subℕ n b) (omega arith)
+shifted p s b = summed p s b (subℕ s b) (sym (minus s b))
 
 -- by m counts down, where s is m below its bias
 pub back-down : (t s b m p r : ℕ) → s + m ≡ b → r ≡ ahead (t + 1) (m % (t + 1)) p → r ≡ takenBack (t + 1) (subℕ s b) p

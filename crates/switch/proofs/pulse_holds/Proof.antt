@@ -1,9 +1,9 @@
 -- `switch::pulse_holds` meets its contract: the train by the position taken back, where the pair is used. Assumes nothing.
-use Prim.Native.Nat.{_+_}
+use Prim.Native.Nat.{ℕ, _+_}
 use mathlib.Core.Path.{_≡_, sym, _∙_}
 use Rattle.rules.specs.Counts.{ahead}
 use Rattle.rules.specs.Motion.{cValue}
-use Rattle.rules.specs.Switches.{advanceValue, moved, countAt, onSetpoint, pulseHolds}
+use Rattle.rules.specs.Switches.{advanceValue, moved, countAt, pulseHolds}
 use Rattle.rules.proofs.Congruence.{ahead-of-moved}
 use Rattle.switch.specs.Parts.{takenBack}
 use borrow.Author.Needs.{needs}
@@ -37,27 +37,27 @@ ahead-requires-2 c κs = search needs
 pulse-on-requires : tie.Need-pulse-on-requires
 pulse-on-requires c κs = search needs
 
--- how far into the train the position is
-far : (c : tie.After-ahead2) →
-    let x = c .before .before .before .before .before .before .before .before .args in
-    c .ahead2 .result ≡ ahead (x .top + 1) (moved (x .top + 1) (advanceValue (x .l .onadvance)) (cValue (x .c)) (onSetpoint (x .l) 0)) (countAt (x .p))
+-- how far the position, taken back, is ahead of a setpoint
+far : (c : tie.After-taken-back) (on : ℕ) →
+    let x = c .before .before .before .before .before .before .args in
+    ahead (x .top + 1) on (c .taken-back .result) ≡ ahead (x .top + 1) (moved (x .top + 1) (advanceValue (x .l .onadvance)) (cValue (x .c)) on) (countAt (x .p))
 unfolding takenBack
-far c =
-    let d = c .before .before in
-    let x = d .before .before .before .before .before .before .args in
-    rw (c .ahead2 .ensures, d .taken-back .ensures, d .before .count-at .ensures, d .before .before .shift .ensures)
-    (sym (ahead-of-moved (x .top) (advanceValue (x .l .onadvance)) (cValue (x .c)) (onSetpoint (x .l) 0) (countAt (x .p))))
+far c on =
+    let x = c .before .before .before .before .before .before .args in
+    rw (c .taken-back .ensures, c .before .count-at .ensures, c .before .before .shift .ensures)
+    (sym (ahead-of-moved (x .top) (advanceValue (x .l .onadvance)) (cValue (x .c)) on (countAt (x .p))))
 
 returns : tie.Need-returns
 unfolding pulseHolds
 returns c =
-    let d = c .before .before in
-    let u = d .before .before .before .before .before in
+    let d = c .before .before .before in
+    let t = d .before .before .before in
     rw (
-      sym (u .used-pair .ensures) ∙ d .before .before .before .before .if1 .taken,
+      sym (t .before .used-pair .ensures) ∙ t .if1 .taken,
       c .pulse-on .ensures,
-      far (c .before),
-      d .ahead .ensures,
+      c .before .ahead2 .ensures,
+      far d _,
+      c .before .before .ahead .ensures,
     )
 
 returns-2 : tie.Need-returns-2

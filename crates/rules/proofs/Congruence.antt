@@ -25,11 +25,11 @@ filled t x u =
     rw e (add-mul-mod-self-right (x + 1 * (t + 1)) (u / (t + 1)) (t + 1) ∙ add-mul-mod-self-right x 1 (t + 1))
 
 -- a number less on both sides
-pub cancelled : (t x y u : ℕ) → (x + u) % (t + 1) ≡ (y + u) % (t + 1) → x % (t + 1) ≡ y % (t + 1)
+cancelled : (t x y u : ℕ) → (x + u) % (t + 1) ≡ (y + u) % (t + 1) → x % (t + 1) ≡ y % (t + 1)
 cancelled t x y u e = sym (filled t x u) ∙ more t (x + u) (y + u) (t + 1 - u % (t + 1)) e ∙ filled t y u
 
 -- (a − b) mod (t + 1), with b added, is a
-pub modulo-gives : (t a b : ℕ) → (modulo (subℕ a b) (t + 1) + b) % (t + 1) ≡ a % (t + 1)
+modulo-gives : (t a b : ℕ) → (modulo (subℕ a b) (t + 1) + b) % (t + 1) ≡ a % (t + 1)
 modulo-gives t a b =
     let e : a + (t + 1 - b % (t + 1)) + b ≡ a + b + (t + 1 - b % (t + 1)) = omega arith in
     rw (modulo-natural a b t, mod-add-mod (a + (t + 1 - b % (t + 1))) (t + 1) b, e) (filled t a b)
@@ -45,17 +45,17 @@ pub ahead-gives : (t from to : ℕ) → (ahead (t + 1) from to + from) % (t + 1)
 unfolding ahead
 ahead-gives t from to = modulo-gives t to from
 
-pub ahead-only : (t from to r : ℕ) → r < t + 1 → (r + from) % (t + 1) ≡ to % (t + 1) → r ≡ ahead (t + 1) from to
+ahead-only : (t from to r : ℕ) → r < t + 1 → (r + from) % (t + 1) ≡ to % (t + 1) → r ≡ ahead (t + 1) from to
 unfolding ahead
 ahead-only t from to r h e = modulo-only t to from r h e
 
 -- ---- An integer as a difference: up − down
 
-abbrev pub up : ℤ → ℕ
+abbrev up : ℤ → ℕ
 up (pos n) = n
 up (negsuc n) = 0
 
-abbrev pub down : ℤ → ℕ
+abbrev down : ℤ → ℕ
 down (pos n) = 0
 down (negsuc n) = suc n
 

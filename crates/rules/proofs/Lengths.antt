@@ -1,18 +1,18 @@
 -- 02, request 5/14: what the length says of a pair of a normal or timed switch, for every scale factor, c and switch. Assumes nothing.
-use Prim.Native.Nat.{ℕ, zero, suc, _+_, _-_, _%_, _≤_, _<_}
+use Prim.Native.Nat.{ℕ, zero, suc, _+_, _-_, _≤_, _<_}
 use mathlib.Core.Bool.{Bool, true, false, cond, _&&_, false≢true}
 use mathlib.Core.Logic.{_↔_, _⊎_, inl, inr, ⊎-elim}
 use mathlib.Core.Path.{_≡_, refl, sym, ap, _∙_}
 use native.Mathlib.Nat.{mod-eq-of-lt}
 use native.Mathlib.Omega.{arith}
-use borrow.Author.Tests.{ltb-true, ltb-false, leb-true, leb-false, lt-ltb, le-ltb}
+use borrow.Author.Tests.{ltb-true, ltb-false, leb-true, lt-ltb, le-ltb}
 use lib.Dec.{T, ltb, leb, lt→ltb, ltb→lt, le→leb}
 use lib.IntN.{ℤ, pos, negsuc, _+ℤ_, _-ℤ_, +ℤ-negℤ-cancel}
-use lib.Signed.{_≤ℤ_, _<ℤ_, ltZ, leZ, leZ-yes, ltZ-yes, ltZ-no, ≤ℤ-refl, <ℤ-≤ℤ-trans, clashℤ}
+use lib.Signed.{_≤ℤ_, _<ℤ_, ltZ, leZ-yes, ltZ-yes, <ℤ-≤ℤ-trans, clashℤ}
 use Rattle.rules.specs.declared.Advance.{Advance}
 use Rattle.rules.specs.declared.Limit.{Limit}
 use Rattle.rules.specs.declared.Position.{Position}
-use Rattle.rules.specs.Words.{digit, modulo, countOf}
+use Rattle.rules.specs.Words.{modulo, countOf}
 use Rattle.rules.specs.Counts.{ahead, holds, usedPair}
 use Rattle.rules.specs.Switches.{advanceValue, advanceShift, moved, countAt, onSetpoint, offSetpoint, onShift, offShift, pairLength, holdsFor, pairHolds}
 use Rattle.rules.proofs.Laws.{modulo-below, ahead-below, ahead-up, ahead-round}

@@ -1,5 +1,5 @@
 -- `switch::shift` meets its contract: s by signs and magnitudes, over or below its bias. Assumes nothing.
-use Prim.Native.Nat.{_+_, _-_, _≤_}
+use Prim.Native.Nat.{_+_, _≤_}
 use mathlib.Core.Bool.{xor, true, false}
 use mathlib.Core.Path.{_≡_, sym, _∙_}
 use native.Mathlib.Omega.{arith}

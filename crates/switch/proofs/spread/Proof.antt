@@ -1,6 +1,4 @@
 -- `switch::spread` meets its contract: the difference to either side, at most a turn. Assumes nothing.
-use Prim.Native.Nat.{suc, _+_, _-_}
-use mathlib.Core.Path.{_≡_}
 use native.Mathlib.Omega.{arith}
 use borrow.Author.Tests.{lt-ltb, le-ltb}
 use Rattle.switch.specs.Parts.{spreadOf}

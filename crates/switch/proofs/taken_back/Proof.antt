@@ -1,6 +1,5 @@
 -- `switch::taken_back` meets its contract: down where s is below its bias, else up. Assumes nothing.
 use Prim.Native.Nat.{_-_}
-use mathlib.Core.Path.{_∙_}
 use native.Mathlib.Omega.{arith}
 use Rattle.switch.specs.Parts.{shiftBias}
 use Rattle.switch.proofs.Advance.{back-down, back-up}

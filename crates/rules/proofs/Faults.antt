@@ -1,6 +1,6 @@
 -- Demand 1 of the step, for every module and sample: 11 comes exactly where 01 lists it, and what such a step reports and leaves. Assumes nothing.
 use Prim.Native.Nat.{ℕ, ◌+◌, ◌-◌, ◌*◌, ◌^◌, ◌<◌}
-use mathlib.Core.Bool.{Bool, true, false, cond, not, ◌&&◌, ◌||◌, true≢false, or_true, not-not}
+use mathlib.Core.Bool.{Bool, true, false, cond, not, ◌&&◌, ◌||◌, true≢false, or-true, not-not}
 use mathlib.Core.List.{List, [], ◌∷◌}
 use mathlib.Core.Logic.{◌↔◌, ◌⊎◌, ⊎_elim, inl, inr}
 use mathlib.Core.Path.{◌≡◌, refl, ap, ◌∙◌}
@@ -69,7 +69,7 @@ step_exactly m s = exactly (step_causes m s) _ refl (step_outcome m s)
 pub step_11 : (m : Module) (s : Sample) → (step_number (step_call m s).answer ≡ 11) ↔ ((1023 < s.raw) ⊎ (m.configuration.fault ≡ true))
 step_11 m s = (
   λ e. ⊎_elim (λ t. inl (ltb-true 1023 s.raw t)) (λ f. inr f) (either (ltb 1023 s.raw) m.configuration.fault ((step_exactly m s).0.0 e).1),
-  ⊎_elim (λ h. step_outcome m s ∙ rw (lt-ltb 1023 s.raw h)) (λ f. step_outcome m s ∙ rw (f, or_true (ltb 1023 s.raw))),
+  ⊎_elim (λ h. step_outcome m s ∙ rw (lt-ltb 1023 s.raw h)) (λ f. step_outcome m s ∙ rw (f, or-true (ltb 1023 s.raw))),
 )
 
 -- ---- What a step answered 11 reports and leaves

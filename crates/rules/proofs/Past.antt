@@ -8,7 +8,7 @@ use Prim.Native.Nat.{◌≤◌, ◌<◌}
 use native.Mathlib.Omega.{arith}
 use lib.ListN.{length}
 use borrow.Author.Tests.{ltb-true, lt-ltb, not-true}
-use Rattle.rules.specs.Quant.{◌⇒◌, exists, every, after_each, no_later}
+use Rattle.rules.specs.Quant.{◌⇒◌, exists, every, before, after_each, no_later}
 
 -- ---- tests
 
@@ -95,28 +95,35 @@ module _ {A : Type 0} where
     pub after_each→ : after_each P Q h ≡ true → AfterEach P Q h
     unfolding after_each
     after_each→ t =
-        let e = exists→ _ h t in
-        let p = both _ _ e.2 in
-        (e.0, e.1, p.0, λ k r q. ltb-true _ _ (apply (every→ _ r p.1) q))
+        let e = exists→ (λ j. P j && every (λ k. Q k ⇒ before k j) h) h t in
+        let p = both (P e.0) (every (λ k. Q k ⇒ before k e.0) h) e.2 in
+        (e.0, e.1, p.0, λ k r q. ltb-true _ _ (apply (every→ (λ k. Q k ⇒ before k e.0) r p.1) q))
 
     pub after_each← : AfterEach P Q h → after_each P Q h ≡ true
     unfolding after_each
-    after_each← (e) = exists← _ e.1 (rw (e.2, every← _ h (λ k r. given _ (λ q. lt-ltb _ _ (e.3 k r q)))))
+    after_each← e =
+        exists← (λ j. P j && every (λ k. Q k ⇒ before k j) h) e.1
+        (pair e.2 (every← (λ k. Q k ⇒ before k e.0) h (λ k r. given (Q k) (λ q. lt-ltb _ _ (e.3 k r q)))))
 
     pub no_later→ : no_later P Q h ≡ true → NoLater P Q h
     unfolding no_later
     no_later→ t =
-        let e = exists→ _ h t in
-        let p = both _ _ e.2 in
-        let l = both _ _ p.0 in
-        (e.0, e.1, l.0, (λ k r q. not-true _ (apply (every→ _ r l.1) (lt-ltb _ _ q))), (λ k r q. not-true _ (apply (every→ _ r p.1) (lt-ltb _ _ q))))
+        let e = exists→ (λ j. (P j && every (λ k. before j k ⇒ not (P k)) h) && every (λ k. before j k ⇒ not (Q k)) h) h t in
+        let p = both (P e.0 && every (λ k. before e.0 k ⇒ not (P k)) h) (every (λ k. before e.0 k ⇒ not (Q k)) h) e.2 in
+        let l = both (P e.0) (every (λ k. before e.0 k ⇒ not (P k)) h) p.0 in (
+          e.0,
+          e.1,
+          l.0,
+          (λ k r q. not-true (P k) (apply (every→ (λ k. before e.0 k ⇒ not (P k)) r l.1) (lt-ltb _ _ q))),
+          (λ k r q. not-true (Q k) (apply (every→ (λ k. before e.0 k ⇒ not (Q k)) r p.1) (lt-ltb _ _ q))),
+        )
 
     pub no_later← : NoLater P Q h → no_later P Q h ≡ true
     unfolding no_later
     no_later← e =
-        exists← _ e.1
-        (pair (pair e.2 (every← _ h (λ k r. given _ (λ q. ap not (e.3 k r (ltb-true _ _ q))))))
-        (every← _ h (λ k r. given _ (λ q. ap not (e.4 k r (ltb-true _ _ q))))))
+        exists← (λ j. (P j && every (λ k. before j k ⇒ not (P k)) h) && every (λ k. before j k ⇒ not (Q k)) h) e.1
+        (pair (pair e.2 (every← (λ k. before e.0 k ⇒ not (P k)) h (λ k r. given (before e.0 k) (λ q. ap not (e.3 k r (ltb-true _ _ q))))))
+        (every← (λ k. before e.0 k ⇒ not (Q k)) h (λ k r. given (before e.0 k) (λ q. ap not (e.4 k r (ltb-true _ _ q))))))
 
   -- ---- one step more
 

@@ -8,7 +8,7 @@ use Prim.Native.Nat.{◌≤◌, ◌<◌}
 use native.Mathlib.Omega.{arith}
 use lib.ListN.{length}
 use borrow.Author.Tests.{ltb-true, leb-true, lt-ltb, le-leb, not-true, not-false}
-use Rattle.rules.specs.Quant.{latest_saw}
+use Rattle.rules.specs.Quant.{◌⇒◌, exists, every, before, upto, latest_saw}
 use Rattle.rules.proofs.Past.{both, pair, either, right, given, apply, same, by, clash, Moment, now, back, number, exists→, exists←, every→, every←, all_of}
 
 module _ {A : Type 0} (B H : List A → Bool) where
@@ -41,30 +41,39 @@ module _ {A : Type 0} (B H : List A → Bool) where
     abbrev pub LatestSaw : List A → Type 0
     LatestSaw h = (b : List A) × Moment b h × Last h b × (j : List A) × Moment j h × Within h b j
 
+    -- b is the last moment with B; from b to j it is H throughout, and X at j: the tests
+    abbrev last_at : List A → List A → Bool
+    last_at h b = B b && every (λ k. before b k ⇒ not (B k)) h
+
+    abbrev saw_at : List A → List A → List A → Bool
+    saw_at h b j = (upto b j && every (λ k. (upto b k && upto k j) ⇒ H k) h) && X j
+
     pub latest_saw→ : (h : List A) → latest_saw B H X h ≡ true → LatestSaw h
     unfolding latest_saw
     latest_saw→ h t =
-        let e = exists→ _ h t in
-        let p = both _ _ e.2 in
-        let l = both _ _ p.0 in
-        let f = exists→ _ h p.1 in
-        let q = both _ _ f.2 in
-        let w = both _ _ q.0 in (
+        let e = exists→ (λ b. last_at h b && exists (λ j. saw_at h b j) h) h t in
+        let p = both (last_at h e.0) (exists (λ j. saw_at h e.0 j) h) e.2 in
+        let l = both (B e.0) (every (λ k. before e.0 k ⇒ not (B k)) h) p.0 in
+        let f = exists→ (λ j. saw_at h e.0 j) h p.1 in
+        let q = both (upto e.0 f.0 && every (λ k. (upto e.0 k && upto k f.0) ⇒ H k) h) (X f.0) f.2 in
+        let w = both (upto e.0 f.0) (every (λ k. (upto e.0 k && upto k f.0) ⇒ H k) h) q.0 in (
           e.0,
           e.1,
-          (l.0, λ k r i. not-true _ (apply (every→ _ r l.1) (lt-ltb _ _ i))),
+          (l.0, λ k r i. not-true (B k) (apply (every→ (λ k. before e.0 k ⇒ not (B k)) r l.1) (lt-ltb _ _ i))),
           f.0,
           f.1,
-          (leb-true _ _ w.0, (λ k r i o. apply (every→ _ r w.1) (pair (le-leb _ _ i) (le-leb _ _ o))), q.1),
+          (leb-true _ _ w.0, (λ k r i o. apply (every→ (λ k. (upto e.0 k && upto k f.0) ⇒ H k) r w.1) (pair (le-leb _ _ i) (le-leb _ _ o))), q.1),
         )
 
     pub latest_saw← : (h : List A) → LatestSaw h → latest_saw B H X h ≡ true
     unfolding latest_saw
     latest_saw← h e =
-        exists← _ e.1
-        (pair (pair e.2.0 (every← _ h (λ k r. given _ (λ i. ap not (e.2.1 k r (ltb-true _ _ i))))))
-        (exists← _ e.4
-        (pair (pair (le-leb _ _ e.5.0) (every← _ h (λ k r. given _ (λ i. let p = both _ _ i in e.5.1 k r (leb-true _ _ p.0) (leb-true _ _ p.1))))) e.5.2)))
+        exists← (λ b. last_at h b && exists (λ j. saw_at h b j) h) e.1
+        (pair (pair e.2.0 (every← (λ k. before e.0 k ⇒ not (B k)) h (λ k r. given (before e.0 k) (λ i. ap not (e.2.1 k r (ltb-true _ _ i))))))
+        (exists← (λ j. saw_at h e.0 j) e.4
+        (pair (pair (le-leb _ _ e.5.0)
+        (every← (λ k. (upto e.0 k && upto k e.3) ⇒ H k) h (λ k r. given (upto e.0 k && upto k e.3) (λ i. let p = both (upto e.0 k) (upto k e.3) i in e.5.1 k r (leb-true _ _ p.0) (leb-true _ _ p.1)))))
+        e.5.2)))
 
     module _ (empty : H [] ≡ false) (s : A) (h : List A) (law : Lawful (s ∷ h)) where
       abbrev N : List A

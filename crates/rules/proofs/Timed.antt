@@ -14,7 +14,7 @@ use Rattle.rules.specs.declared.TimedState.{TimedState}
 use Rattle.rules.specs.Switches.{timed_steps}
 use Rattle.rules.specs.Card.{timed_after, fresh_timed}
 use Rattle.rules.specs.History.{held_at, lasts}
-use Rattle.rules.specs.Quant.{held_under}
+use Rattle.rules.specs.Quant.{◌⇒◌, every, upto, held_under}
 use Rattle.rules.proofs.Past.{both, pair, given, apply, same, by, clash, Moment, now, back, number, exists→, exists←, every→, every←, all_of}
 
 module _ {A : Type 0} (H : List A → Bool) where
@@ -29,20 +29,24 @@ module _ {A : Type 0} (H : List A → Bool) where
   abbrev pub HeldUnder : ℕ → List A → Type 0
   HeldUnder n h = (b : List A) × Moment b h × From h b × (length h < length b + n)
 
+  -- b is where H began, and H stood from there on
+  abbrev begun_at : List A → List A → Bool
+  begun_at h b = (H b && not (H (tail b))) && every (λ k. upto b k ⇒ H k) h
+
   pub held_under→ : (n : ℕ) (h : List A) → held_under n H h ≡ true → HeldUnder n h
   unfolding held_under
   held_under→ n h t =
-      let e = exists→ _ h t in
-      let p = both _ _ e.2 in
-      let q = both _ _ p.0 in
-      let b = both _ _ q.0 in
-      (e.0, e.1, (b.0, not-true _ b.1, λ k r l. apply (every→ _ r q.1) (le-leb _ _ l)), ltb-true _ _ p.1)
+      let e = exists→ (λ b. begun_at h b && ltb (length h) (length b + n)) h t in
+      let p = both (begun_at h e.0) (ltb (length h) (length e.0 + n)) e.2 in
+      let q = both (H e.0 && not (H (tail e.0))) (every (λ k. upto e.0 k ⇒ H k) h) p.0 in
+      let b = both (H e.0) (not (H (tail e.0))) q.0 in
+      (e.0, e.1, (b.0, not-true _ b.1, λ k r l. apply (every→ (λ k. upto e.0 k ⇒ H k) r q.1) (le-leb _ _ l)), ltb-true _ _ p.1)
 
   pub held_under← : (n : ℕ) (h : List A) → HeldUnder n h → held_under n H h ≡ true
   unfolding held_under
   held_under← n h e =
-      exists← _ e.1
-      (pair (pair (pair e.2.0 (ap not e.2.1)) (every← _ h (λ k r. given _ (λ l. e.2.2 k r (leb-true _ _ l))))) (lt-ltb _ _ e.3))
+      exists← (λ b. begun_at h b && ltb (length h) (length b + n)) e.1
+      (pair (pair (pair e.2.0 (ap not e.2.1)) (every← (λ k. upto e.0 k ⇒ H k) h (λ k r. given (upto e.0 k) (λ l. e.2.2 k r (leb-true _ _ l))))) (lt-ltb _ _ e.3))
 
 module _ {A : Type 0} (H : List A → Bool) (empty : H [] ≡ false) where
   -- the stretch that stands began as many moments ago as are counted

@@ -1,6 +1,8 @@
 // The card's types: its programming, its state, what a step takes and what the calls answer. What the module stores is plain numbers, so that a host
 // lends it as it stands; `variants` reads them as cases. Every value of every type is harmless: no call has a `requires`. The rules over them are in
 // specs/; the only code here is that, the numbers of refusals, and power-up.
+#![tactic(auto)]
+
 pub mod numbers;
 mod power_up;
 pub mod variants;
@@ -11,16 +13,16 @@ ghost use Rattle.rules.specs.Card.{module_start};
 
 // Machine Position, in counts of a turn.
 #[repr(C)]
-#[derive(Drop)]
+#[derive(Clone, Copy)]
 pub struct MachinePosition(pub u16);
 
 // Group Position, in counts of a turn.
 #[repr(C)]
-#[derive(Drop)]
+#[derive(Clone, Copy)]
 pub struct GroupPosition(pub u16);
 
 // The position that a switch reads: Group Position in Group Mode, Machine Position in Independent Mode.
-#[derive(Drop)]
+#[derive(Clone, Copy)]
 pub enum Position {
     OfMachine(MachinePosition),
     OfGroup(GroupPosition),
@@ -28,7 +30,7 @@ pub enum Position {
 
 // The module: an 8511 has no real inputs and outputs, an 8512 eight, an 8513 sixteen; all have sixteen virtual ones. NoModule, which any other number
 // reads as, has none of either.
-#[derive(Drop)]
+#[derive(Clone, Copy)]
 pub enum Model {
     NoModule,
     M8511,
@@ -37,14 +39,14 @@ pub enum Model {
 }
 
 // The type of an input or output.
-#[derive(Drop)]
+#[derive(Clone, Copy)]
 pub enum IoType {
     Real,
     Virtual,
 }
 
 // The tachometer's decimal code.
-#[derive(Drop)]
+#[derive(Clone, Copy)]
 pub enum DecimalCode {
     Code0,
     Code1,
@@ -53,7 +55,7 @@ pub enum DecimalCode {
 }
 
 // A group's operating mode. NoMode, which any other number reads as, is never open.
-#[derive(Drop)]
+#[derive(Clone, Copy)]
 pub enum Mode {
     NoMode,
     Mode0,
@@ -66,7 +68,7 @@ pub enum Mode {
 
 // A motion detector's setpoints, in rpm.
 #[repr(C)]
-#[derive(Drop)]
+#[derive(Clone, Copy)]
 pub struct Detector {
     pub low: u16,
     pub high: u16,
@@ -74,7 +76,7 @@ pub struct Detector {
 
 // The tachometer's scalars; `divider` is the divisor less one, so that no value divides by 0. `code` is the decimal code, 0 to 3.
 #[repr(C)]
-#[derive(Drop)]
+#[derive(Clone, Copy)]
 pub struct Scalars {
     pub multiplier: u16,
     pub divider: u16,
@@ -83,7 +85,7 @@ pub struct Scalars {
 
 // The setup in force. `top` is the scale factor less one; `reversed` is CDir, `fast` TResp, `interrupt` SLCINT, `independent` MType.
 #[repr(C)]
-#[derive(Drop)]
+#[derive(Clone, Copy)]
 pub struct Setup {
     pub top: u16,
     pub preset: u16,
@@ -100,7 +102,7 @@ pub struct Setup {
 
 // An ON and an OFF setpoint.
 #[repr(C)]
-#[derive(Drop)]
+#[derive(Clone, Copy)]
 pub struct Pair {
     pub on: u16,
     pub off: u16,
@@ -108,7 +110,7 @@ pub struct Pair {
 
 // A group's program: `isvirtual` is GPTyp, `firstvirtual` FCITyp, `mode` the mode's number, `dwell` the Group Channel, `offset` the Group Offset / Preset.
 #[repr(C)]
-#[derive(Drop)]
+#[derive(Clone, Copy)]
 pub struct Group {
     pub used: bool,
     pub isvirtual: bool,
@@ -120,7 +122,7 @@ pub struct Group {
 }
 
 // The type of a limit switch: Pulse with the quantity Q and the ON count K, Timed with the duration T.
-#[derive(Drop)]
+#[derive(Clone, Copy)]
 pub enum Switch {
     Unprogrammed,
     Normal,
@@ -131,7 +133,7 @@ pub enum Switch {
 // The type of a limit switch as it is stored: `kind` 1 normal, 2 pulse with the quantity Q and the ON count K, 3 timed with the duration T; any other
 // is unprogrammed.
 #[repr(C)]
-#[derive(Drop)]
+#[derive(Clone, Copy)]
 pub struct Action {
     pub kind: u16,
     pub quantity: u16,
@@ -140,7 +142,7 @@ pub struct Action {
 }
 
 // The motion detector that an output is ANDed with. Never, which a number over 2 reads as, never holds.
-#[derive(Drop)]
+#[derive(Clone, Copy)]
 pub enum Anded {
     Never,
     Neither,
@@ -150,7 +152,7 @@ pub enum Anded {
 
 // A signed advance in tenths of a millisecond, as a sign and a magnitude.
 #[repr(C)]
-#[derive(Drop)]
+#[derive(Clone, Copy)]
 pub struct Advance {
     pub negative: bool,
     pub tenths: u16,
@@ -159,7 +161,7 @@ pub struct Advance {
 // A limit switch's program: `enable` is ANDing with LS Enable, `detector` the number of the motion detector, 0 for neither; setpoints are ON 1, OFF 1,
 // ON 2, OFF 2 and so on.
 #[repr(C)]
-#[derive(Drop)]
+#[derive(Clone, Copy)]
 pub struct Limit {
     pub action: Action,
     pub enable: bool,
@@ -171,7 +173,7 @@ pub struct Limit {
 
 // The programming in force. `owners` has for each of the 32 outputs the number of the group that it was dealt to; 0 or over 6 is none.
 #[repr(C)]
-#[derive(Drop)]
+#[derive(Clone, Copy)]
 pub struct Programming {
     pub setup: Setup,
     pub groups: [Group; 6],
@@ -181,7 +183,7 @@ pub struct Programming {
 
 // SUErr, GPErr, LSErr, I/DNum and I/DSet.
 #[repr(C)]
-#[derive(Drop)]
+#[derive(Clone, Copy)]
 pub struct Errors {
     pub setup: bool,
     pub group: bool,
@@ -191,7 +193,7 @@ pub struct Errors {
 }
 
 #[repr(C)]
-#[derive(Drop)]
+#[derive(Clone, Copy)]
 pub struct Acknowledges {
     pub setup: bool,
     pub group: bool,
@@ -202,7 +204,7 @@ pub struct Acknowledges {
 // What the calls' arguments alone decide. `model` is the module's number, `ignored` MsgIgn; `raw` is that of the last step since power-up that was
 // not answered 11.
 #[repr(C)]
-#[derive(Drop)]
+#[derive(Clone, Copy)]
 pub struct Configuration {
     pub model: u16,
     pub programming: Programming,
@@ -215,7 +217,7 @@ pub struct Configuration {
 
 // q of the previous step since the module start, where there was one.
 #[repr(C)]
-#[derive(Drop)]
+#[derive(Clone, Copy)]
 pub struct Last {
     pub stepped: bool,
     pub at: u16,
@@ -223,7 +225,7 @@ pub struct Last {
 
 // A window of movements: the steps since its last update, and the sum of their movements, 512 added to each.
 #[repr(C)]
-#[derive(Drop)]
+#[derive(Clone, Copy)]
 pub struct Window {
     pub steps: u16,
     pub sum: u32,
@@ -231,7 +233,7 @@ pub struct Window {
 
 // The speed: the windows of c and of C, c with the 512 of each of its 120 steps added, and rpm.
 #[repr(C)]
-#[derive(Drop)]
+#[derive(Clone, Copy)]
 pub struct Speed {
     pub last: Last,
     pub short: Window,
@@ -243,7 +245,7 @@ pub struct Speed {
 // A group since its start: its inputs' levels at the last step, whether the dwell held at its end, the shift of Modes 1 and 2, whether an edge was
 // taken, whether a dwell has begun since the last taken one, whether a qualifying step came since the dwell began, and openness in Modes 2, 4 and 5.
 #[repr(C)]
-#[derive(Drop)]
+#[derive(Clone, Copy)]
 pub struct GroupState {
     pub level: bool,
     pub first: bool,
@@ -257,7 +259,7 @@ pub struct GroupState {
 
 // A timed switch: whether its pair held at the last step, and for how many steps from there, that one included, it is on if it goes on holding.
 #[repr(C)]
-#[derive(Drop)]
+#[derive(Clone, Copy)]
 pub struct TimedState {
     pub held: bool,
     pub left: u32,
@@ -265,7 +267,7 @@ pub struct TimedState {
 
 // What a start resets: a module start all of it. `positions` are the Group Positions that the last step left.
 #[repr(C)]
-#[derive(Drop)]
+#[derive(Clone, Copy)]
 pub struct SinceStart {
     pub speed: Speed,
     pub groups: [GroupState; 6],
@@ -276,7 +278,7 @@ pub struct SinceStart {
 // What the last step showed: the words of its answer that the input table has, the active real inputs after the forces, and three bits. Its position is
 // the Machine Position of the last step not answered 11, since one answered 11 shows that again.
 #[repr(C)]
-#[derive(Drop)]
+#[derive(Clone, Copy)]
 pub struct Shown {
     pub position: MachinePosition,
     pub tach: u16,
@@ -290,7 +292,7 @@ pub struct Shown {
 
 // The interrupt request and its mask.
 #[repr(C)]
-#[derive(Drop)]
+#[derive(Clone, Copy)]
 pub struct Bus {
     pub request: bool,
     pub mask: bool,
@@ -298,7 +300,7 @@ pub struct Bus {
 
 // What runs on since power-up.
 #[repr(C)]
-#[derive(Drop)]
+#[derive(Clone, Copy)]
 pub struct Kept {
     pub shown: Shown,
     pub bus: Bus,
@@ -306,14 +308,14 @@ pub struct Kept {
 
 // What steps make.
 #[repr(C)]
-#[derive(Drop)]
+#[derive(Clone, Copy)]
 pub struct State {
     pub since: SinceStart,
     pub kept: Kept,
 }
 
 #[repr(C)]
-#[derive(Drop)]
+#[derive(Clone, Copy)]
 pub struct Module {
     pub configuration: Configuration,
     pub state: State,
@@ -321,7 +323,7 @@ pub struct Module {
 
 // The nine words that a step takes.
 #[repr(C)]
-#[derive(Drop)]
+#[derive(Clone, Copy)]
 pub struct Sample {
     pub raw: u16,
     pub currents: u16,
@@ -336,7 +338,7 @@ pub struct Sample {
 
 // What the groups, the outputs and the answer read of a step: the scale factor less one and MType in force, Machine Position, the words of the active
 // inputs after the forces, c as the speed holds it, rpm, whether rpm was updated, and the motion detectors.
-#[derive(Drop)]
+#[derive(Clone, Copy)]
 pub struct Conditions {
     pub top: u16,
     pub independent: bool,
@@ -351,7 +353,7 @@ pub struct Conditions {
 }
 
 // What a group meets in a step: Machine Position, its input's level, its First Cycle Input's level, rpm, and whether rpm was updated.
-#[derive(Drop)]
+#[derive(Clone, Copy)]
 pub struct Event {
     pub machine: MachinePosition,
     pub level: bool,
@@ -361,7 +363,7 @@ pub struct Event {
 }
 
 // The programming cycles that take a file.
-#[derive(Drop)]
+#[derive(Clone, Copy)]
 pub enum FileCycle {
     SetupCycle,
     GroupCycle,
@@ -369,14 +371,14 @@ pub enum FileCycle {
 }
 
 // The programming cycles.
-#[derive(Drop)]
+#[derive(Clone, Copy)]
 pub enum Cycle {
     OfFile(FileCycle),
     NudgeCycle,
 }
 
 // Why a call is refused; `numbers` gives each its number.
-#[derive(Drop)]
+#[derive(Clone, Copy)]
 pub enum Refusal {
     M0Length,
     M1Length,
@@ -394,7 +396,7 @@ pub enum Refusal {
     ReadOnlyByte,
 }
 
-#[derive(Drop)]
+#[derive(Clone, Copy)]
 pub enum Outcome {
     Idle,
     Accepted,
@@ -402,28 +404,28 @@ pub enum Outcome {
 }
 
 // A configuration after a programming cycle, with what the cycle answers.
-#[derive(Drop)]
+#[derive(Clone, Copy)]
 pub struct Decision {
     pub configuration: Configuration,
     pub outcome: Outcome,
 }
 
 // What power-up, a programming cycle and a byte write answer, with the module after.
-#[derive(Drop)]
+#[derive(Clone, Copy)]
 pub struct CycleResult {
     pub card: Module,
     pub outcome: Outcome,
 }
 
 // What a byte read answers.
-#[derive(Drop)]
+#[derive(Clone, Copy)]
 pub struct ByteRead {
     pub outcome: Outcome,
     pub value: u8,
 }
 
 // What a byte write answers, with the request and the mask after.
-#[derive(Drop)]
+#[derive(Clone, Copy)]
 pub struct BusResult {
     pub bus: Bus,
     pub outcome: Outcome,
@@ -431,7 +433,7 @@ pub struct BusResult {
 
 // What a step answers. `refused` is set where it was answered 11.
 #[repr(C)]
-#[derive(Drop)]
+#[derive(Clone, Copy)]
 pub struct Answer {
     pub refused: bool,
     pub position: MachinePosition,
@@ -446,14 +448,14 @@ pub struct Answer {
 }
 
 // The two words of outputs that a step answers.
-#[derive(Drop)]
+#[derive(Clone, Copy)]
 pub struct OutputWords {
     pub real: u16,
     pub virtuals: u16,
 }
 
 // A step's answer, with the module after.
-#[derive(Drop)]
+#[derive(Clone, Copy)]
 pub struct StepResult {
     pub card: Module,
     pub answer: Answer,
@@ -574,6 +576,7 @@ impl Bus {
 
 // What a module start resets.
 impl SinceStart {
+    #[tactic(auto, unfolding(crate::specs::Card::module_start))]
     pub fn fresh() -> SinceStart
         ensures { result ≡ module_start }
     {

@@ -47,6 +47,7 @@ impl Module {
     pub const ACTIVE_STATES: u16 = 0;
 
     // The setup of a fresh module.
+    #[tactic(auto, unfolding(crate::specs::Calls::default_setup))]
     fn default_setup() -> Setup
         ensures { result ≡ default_setup }
     {
@@ -70,6 +71,7 @@ impl Module {
     }
 
     // A fresh module. NoModule's is what a place holds before the first power-up.
+    #[tactic(auto, unfolding(crate::specs::Card::fresh_module, crate::specs::Calls::fresh_configuration))]
     pub fn fresh(model: Model) -> Module
         ensures { result ≡ fresh_module model }
     {
@@ -97,6 +99,7 @@ impl Module {
     }
 
     // Power-up of the place that holds m. A number that is no module's is refused with 3, and the place stays as it was.
+    #[tactic(auto, unfolding(crate::specs::Card::powered_up))]
     pub fn power_up(m: Module, number: u16) -> CycleResult
         ensures { result ≡ powered_up m number }
     {

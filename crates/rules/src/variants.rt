@@ -6,6 +6,7 @@ ghost use Rattle.rules.specs.Variants as variants;
 use crate::{Action, Anded, DecimalCode, IoType, Mode, Model, Switch};
 
 // A number is a module's.
+#[tactic(auto, unfolding(crate::specs::Variants::model_known))]
 pub fn model_known(n: u16) -> bool
     ensures { result ≡ variants.model_known n }
 {
@@ -17,6 +18,7 @@ pub fn model_known(n: u16) -> bool
     }
 }
 
+#[tactic(auto, unfolding(crate::specs::Variants::model_of))]
 pub fn model_of(n: u16) -> Model
     ensures { result ≡ variants.model_of n }
 {
@@ -28,6 +30,7 @@ pub fn model_of(n: u16) -> Model
     }
 }
 
+#[tactic(auto, unfolding(crate::specs::Variants::model_number))]
 pub fn model_number(m: Model) -> u16
     ensures { result ≡ variants.model_number m }
 {
@@ -40,6 +43,7 @@ pub fn model_number(m: Model) -> u16
 }
 
 // Its real inputs, and its real outputs.
+#[tactic(auto, unfolding(crate::specs::Variants::real_count))]
 pub fn real_count(m: Model) -> u16
     ensures { result ≡ variants.real_count m }
 {
@@ -52,6 +56,7 @@ pub fn real_count(m: Model) -> u16
 }
 
 // Its virtual inputs, and its virtual outputs.
+#[tactic(auto, unfolding(crate::specs::Variants::virtual_count))]
 pub fn virtual_count(m: Model) -> u16
     ensures { result ≡ variants.virtual_count m }
 {
@@ -63,6 +68,7 @@ pub fn virtual_count(m: Model) -> u16
     }
 }
 
+#[tactic(auto, unfolding(crate::specs::Variants::code_of))]
 pub fn code_of(n: u16) -> DecimalCode
     ensures { result ≡ variants.code_of n }
 {
@@ -84,6 +90,7 @@ pub fn type_of(set: bool) -> IoType
     IoType::Real
 }
 
+#[tactic(auto, unfolding(crate::specs::Variants::mode_of))]
 pub fn mode_of(n: u16) -> Mode
     ensures { result ≡ variants.mode_of n }
 {
@@ -98,6 +105,7 @@ pub fn mode_of(n: u16) -> Mode
     }
 }
 
+#[tactic(auto, unfolding(crate::specs::Variants::switch_of))]
 pub fn switch_of(a: Action) -> Switch
     ensures { result ≡ variants.switch_of a }
 {
@@ -110,6 +118,7 @@ pub fn switch_of(a: Action) -> Switch
     }
 }
 
+#[tactic(auto, unfolding(crate::specs::Variants::anded_of))]
 pub fn anded_of(n: u16) -> Anded
     ensures { result ≡ variants.anded_of n }
 {

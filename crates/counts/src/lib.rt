@@ -1,4 +1,5 @@
 // Counts of a turn: how far two are apart, and modulo the scale factor differences, sums, and a pair of setpoints. `top` is the scale factor less one.
+#![tactic(auto)]
 
 ghost use Rattle.std.specs.Prelude.{◌≡◌, ◌+◌, ◌%◌, nat_abs};
 ghost use Rattle.std.proofs.Math.IntN.{sub_ℕ};
@@ -64,6 +65,7 @@ fn sum_far(top: u16, a: u16, b: u16) -> u16
 }
 
 // A pair (on, off) holds at p.
+#[tactic(auto, unfolding(rules::specs::Counts::holds))]
 pub fn holds(top: u16, on: u16, off: u16, p: u16) -> bool
     ensures { result ≡ counts.holds (top + 1) on off p }
 {
@@ -71,6 +73,7 @@ pub fn holds(top: u16, on: u16, off: u16, p: u16) -> bool
 }
 
 // The same for counts out of range.
+#[tactic(auto, unfolding(rules::specs::Counts::holds))]
 pub fn holds_far(top: u16, on: u16, off: u16, p: u16) -> bool
     ensures { result ≡ counts.holds (top + 1) on off p }
 {
@@ -88,6 +91,7 @@ pub fn used_pair(on: u16, off: u16) -> bool
 }
 
 // A setpoint out of range, or an equal pair that is not 0/0.
+#[tactic(auto, unfolding(rules::specs::Counts::pair_bad))]
 pub fn pair_bad(top: u16, on: u16, off: u16) -> bool
     ensures { result ≡ pair_bad (top + 1) on off }
 {

@@ -1,11 +1,12 @@
 // Words of 16 bits and files of words: what the readers and writers of the card's files, inputs and outputs are made of.
+#![tactic(auto)]
 
 ghost use Rattle.std.specs.Prelude.{◌≡◌, [], ◌∷◌, not, cond, ◌+◌, ◌-◌, ◌<◌, leb, length};
 ghost use Rattle.rules.specs.Words as words;
 ghost use Rattle.word.specs.Layout.{named};
 
 // A word in which 01 names some bits and the others are reserved: the setup, group and limit commands, a group's and a limit switch's control word.
-#[derive(Drop)]
+#[derive(Clone, Copy)]
 pub enum Layout {
     SetupCommand,
     GroupCommand,
@@ -18,6 +19,7 @@ pub enum Layout {
 pub const RESERVED_STATUS: u16 = 0x8000;
 
 // Bit n of a word.
+#[tactic(auto, unfolding(rules::specs::Words::bit))]
 pub fn bit(w: u16, n: u16) -> bool
     ensures { result ≡ words.bit w n }
 {
@@ -28,6 +30,7 @@ pub fn bit(w: u16, n: u16) -> bool
 }
 
 // The reserved bits of a word, all set.
+#[tactic(auto, unfolding(rules::specs::Words::packed, rules::specs::SetupWords::setup_command_bits, rules::specs::GroupWords::group_command_bits, rules::specs::LimitWords::limit_command_bits, rules::specs::GroupWords::group_control_bits, rules::specs::LimitWords::limit_control_bits))]
 fn reserved(layout: Layout) -> u16
     ensures { result ≡ words.word_of 0 (λ n. not (words.one_of (named layout) n)) }
 {
@@ -41,6 +44,7 @@ fn reserved(layout: Layout) -> u16
 }
 
 // Some reserved bit of a word is set.
+#[tactic(auto, unfolding(rules::specs::Words::other_bit))]
 pub fn other_bit(w: u16, layout: Layout) -> bool
     ensures { result ≡ words.other_bit (named layout) w }
 {
@@ -48,6 +52,7 @@ pub fn other_bit(w: u16, layout: Layout) -> bool
 }
 
 // How many of sixteen outputs changed.
+#[tactic(auto, unfolding(rules::specs::Words::differing))]
 pub fn changes(old: u16, new: u16) -> u16
     ensures { result ≡ words.differing old new }
 {
@@ -82,6 +87,7 @@ pub fn any_word(file: &[u16], from: usize, to: usize) -> bool
 }
 
 // The words stored into a file from a place on; a file that ends before their end stays as it is.
+#[tactic(auto, unfolding(rules::specs::Words::stored_at))]
 pub fn store(file: &mut [u16], at: usize, words: &[u16])
     ensures { file.new ≡ cond (leb (at + length words.now) (length file.old)) (Rattle.rules.specs.Words.stored_at at words.now file.old) file.old }
 {

@@ -1,4 +1,6 @@
 // The rack bus: the input table as bytes, the interrupt request with its mask, and the line.
+#![tactic(auto)]
+
 ghost use Rattle.std.specs.Prelude.{◌≡◌, cond, ◌/◌, ◌%◌, eqb};
 ghost use Rattle.rules.specs.declared.Outcome.TheVariants.{Refused};
 ghost use Rattle.rules.specs.Words as words;
@@ -17,6 +19,7 @@ const MASK: u16 = 17;
 // ---- The input table
 
 // Word 0: the status bits.
+#[tactic(auto, unfolding(rules::specs::Bus::status_bits))]
 fn status_bits(g: Configuration, x: Shown) -> u16
     ensures { result ≡ bus.status_bits g x }
 {
@@ -28,6 +31,7 @@ fn status_bits(g: Configuration, x: Shown) -> u16
     low + 64 * (middle + 64 * high)
 }
 
+#[tactic(auto, unfolding(rules::specs::Bus::input_table))]
 fn input_table(g: Configuration, x: Shown) -> [u16; 8]
     ensures { result ≡ bus.input_table g x }
 {
@@ -54,6 +58,7 @@ fn byte_of(w: u16, n: u16) -> u8
     (w / 256) as u8
 }
 
+#[tactic(auto, unfolding(rules::specs::Bus::table_byte))]
 fn table_byte(g: Configuration, x: Shown, n: u16) -> u8
     ensures { result ≡ bus.table_byte g x n }
 {
@@ -71,6 +76,7 @@ fn flag(b: bool) -> u8
 }
 
 // The byte at an offset of at most 17.
+#[tactic(auto, unfolding(rules::specs::Bus::byte_at))]
 fn byte_at(g: Configuration, x: Kept, n: u16) -> u8
     ensures { result ≡ bus.byte_at g x n }
 {
@@ -84,6 +90,7 @@ fn byte_at(g: Configuration, x: Kept, n: u16) -> u8
     flag(b.mask)
 }
 
+#[tactic(auto, unfolding(rules::specs::Card::read_call, rules::specs::Bus::byte_read))]
 pub fn read_byte(m: Module, offset: u16) -> ByteRead
     ensures { result ≡ card.read_call m offset }
 {
@@ -102,6 +109,7 @@ pub fn read_byte(m: Module, offset: u16) -> ByteRead
 // ---- Writes
 
 // The request and the mask after a write to their bytes: a 1 drops the request, and the mask is the bit written.
+#[tactic(auto, unfolding(rules::specs::Bus::stored))]
 fn stored(b: Bus, n: u16, value: u8) -> Bus
     ensures { result ≡ bus.stored b n value }
 {
@@ -125,6 +133,7 @@ fn refused(b: Bus, why: Refusal) -> BusResult
 }
 
 // A byte written: 13 for an offset over 17, first; 14 for one of the input table.
+#[tactic(auto, unfolding(rules::specs::Bus::bus_write))]
 pub fn written(b: Bus, offset: u16, value: u8) -> BusResult
     ensures { result ≡ bus.bus_write b offset value }
 {
@@ -140,6 +149,7 @@ pub fn written(b: Bus, offset: u16, value: u8) -> BusResult
     }
 }
 
+#[tactic(auto, unfolding(rules::specs::Card::write_call))]
 pub fn write_byte(m: Module, offset: u16, value: u8) -> CycleResult
     ensures { result ≡ card.write_call m offset value }
 {
@@ -161,12 +171,14 @@ pub fn write_byte(m: Module, offset: u16, value: u8) -> CycleResult
 // ---- The line
 
 // The line is up while a request stands and the mask is set.
+#[tactic(auto, unfolding(rules::specs::Bus::line_of))]
 pub fn line_of(b: Bus) -> bool
     ensures { result ≡ bus.line_of b }
 {
     b.request & b.mask
 }
 
+#[tactic(auto, unfolding(rules::specs::Card::line_level))]
 pub fn line(m: Module) -> bool
     ensures { result ≡ card.line_level m }
 {

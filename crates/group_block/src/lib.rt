@@ -1,4 +1,5 @@
 // The group blocks of M0: their checks, the bits of word 110, the programs that they give, and the dealing of outputs. `top` is the scale factor less one.
+#![tactic(auto)]
 
 ghost use Rattle.std.specs.Prelude.{◌≡◌, [], ◌∷◌, ◌+◌, ltb};
 ghost use Rattle.rules.specs.Words as words;
@@ -56,6 +57,7 @@ fn same_type(a: IoType, b: IoType) -> bool
 }
 
 // The inputs and outputs of a type.
+#[tactic(auto, unfolding(rules::specs::Variants::io_count))]
 fn io_count(m: Model, t: IoType) -> u16
     ensures { result ≡ variants.io_count m t }
 {
@@ -66,6 +68,7 @@ fn io_count(m: Model, t: IoType) -> u16
 }
 
 // The group that a block's words give; an unused one has no program.
+#[tactic(auto, unfolding(rules::specs::GroupWords::group_of))]
 fn group_of(file: &[u16], n: u16) -> Group
     ensures { result ≡ group.group_of file.now n }
 {
@@ -89,6 +92,7 @@ fn group_of(file: &[u16], n: u16) -> Group
 }
 
 // The six groups of a file.
+#[tactic(auto, unfolding(rules::specs::Words::table))]
 pub fn groups_of(file: &[u16]) -> [Group; 6]
     ensures { result ≡ words.table 6 1 (group.group_of file.now) }
 {
@@ -102,6 +106,7 @@ pub fn groups_of(file: &[u16]) -> [Group; 6]
 }
 
 // How many outputs of a type a group takes.
+#[tactic(auto, unfolding(crate::specs::Blocks::share_of))]
 fn share(g: Group, t: IoType) -> u16
     ensures { result ≡ blocks.share_of t g }
 {
@@ -113,6 +118,7 @@ fn share(g: Group, t: IoType) -> u16
 }
 
 // How many outputs of a type groups 1 to n take.
+#[tactic(auto, unfolding(rules::specs::GroupWords::dealt_up_to))]
 fn dealt_up_to(file: &[u16], t: IoType, n: u16) -> u32
     ensures { result ≡ group.dealt_up_to file.now t n }
 {
@@ -140,6 +146,7 @@ fn too_many(m: Model, file: &[u16], t: IoType, n: u16) -> bool
 }
 
 // GPgErr: quantity, mode, an unnamed bit, FCITyp, or more outputs than are left.
+#[tactic(auto, unfolding(rules::specs::GroupWords::group_program_bad))]
 fn program_bad(m: Model, file: &[u16], n: u16) -> bool
     ensures { result ≡ group.group_program_bad m file.now n }
 {
@@ -162,6 +169,7 @@ fn three_bits(a: bool, b: bool, c: bool) -> u16
 }
 
 // GOFErr 0, GPgErr 1, GCSErr 2 of group n; an unused group's words are ignored.
+#[tactic(auto, unfolding(rules::specs::GroupWords::group_bits))]
 pub fn group_bits(m: Model, top: u16, file: &[u16], n: u16) -> u16
     ensures { result ≡ group.group_bits m (top + 1) file.now n }
 {
@@ -175,6 +183,7 @@ pub fn group_bits(m: Model, top: u16, file: &[u16], n: u16) -> u16
 }
 
 // The number of the group that takes output i of a type, counted from 0; 0 if none does.
+#[tactic(auto, unfolding(rules::specs::GroupWords::dealt_to))]
 fn dealt_to(groups: [Group; 6], t: IoType, i: u16) -> u16
     ensures { result ≡ group.dealt_to t groups 1 i }
 {
@@ -193,6 +202,7 @@ fn dealt_to(groups: [Group; 6], t: IoType, i: u16) -> u16
 }
 
 // The owner of output n, counted from 0: 0 to 15 are real, 16 to 31 virtual.
+#[tactic(auto, unfolding(crate::specs::Blocks::owner_in))]
 fn owner(groups: [Group; 6], n: u16) -> u16
     ensures { result ≡ blocks.owner_in groups n }
 {
@@ -203,6 +213,7 @@ fn owner(groups: [Group; 6], n: u16) -> u16
 }
 
 // Outputs are dealt consecutively per type.
+#[tactic(auto, unfolding(rules::specs::Words::table))]
 pub fn owners_of(groups: [Group; 6]) -> [u16; 32]
     ensures { result ≡ group.owners_of groups }
 {

@@ -1,4 +1,6 @@
 // The block reader: a group's words of M0 or an output's of M1, as part of that file.
+#![tactic(auto)]
+
 ghost use Rattle.std.specs.Prelude.{◌≡◌, cond, length};
 ghost use Rattle.rules.specs.Reader as reader;
 
@@ -18,6 +20,7 @@ fn block_count(group: bool) -> u16
 }
 
 // The refusal's number, 0 if none: 1 before 2 before 4.
+#[tactic(auto, unfolding(rules::specs::Reader::reader_refusal))]
 fn refusal_of(length0: usize, length1: usize, group: bool, n: u16) -> u16
     ensures { result ≡ reader.reader_refusal length0 length1 group n }
 {
@@ -37,6 +40,7 @@ fn refusal_of(length0: usize, length1: usize, group: bool, n: u16) -> u16
 }
 
 // The part is empty on refusal; the refusal number goes to a lent number.
+#[tactic(auto, unfolding(rules::specs::Reader::reader_part))]
 pub fn read_block<'a>(
     m0: &'a [u16],
     m1: &'a [u16],

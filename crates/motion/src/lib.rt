@@ -1,4 +1,5 @@
 // 01's "Module and sample" and "Speed": inputs, positions, movement, c and rpm by their windows, tachometer and motion detectors.
+#![tactic(auto)]
 
 ghost use Rattle.std.specs.Prelude.{◌≡◌, ◌+◌, ◌^◌, pos, nat_lt};
 ghost use Rattle.rules.specs.Words as words;
@@ -16,6 +17,7 @@ use rules::{
 const SHORT_STEPS: u16 = 120;
 
 // The real inputs, or the real outputs, that a module has, a bit for each.
+#[tactic(auto, unfolding(rules::specs::Words::packed, rules::specs::Variants::real_count))]
 pub fn present(m: Model) -> u16
     ensures { result ≡ words.word_of 0 (λ n. nat_lt n (variants.real_count m)) }
 {
@@ -28,6 +30,7 @@ pub fn present(m: Model) -> u16
 }
 
 // The same of the virtual ones.
+#[tactic(auto, unfolding(rules::specs::Words::packed, rules::specs::Variants::virtual_count))]
 pub fn virtual_present(m: Model) -> u16
     ensures { result ≡ words.word_of 0 (λ n. nat_lt n (variants.virtual_count m)) }
 {
@@ -58,6 +61,7 @@ pub fn level(w: Conditions, kind: IoType, n: u16) -> bool
 }
 
 // q: the raw position, counted the other way with CDir set.
+#[tactic(auto, unfolding(rules::specs::Motion::turned))]
 pub fn turned(reversed: bool, raw: u16) -> u16
     ensures { result ≡ motion.turned reversed raw }
 {
@@ -68,6 +72,7 @@ pub fn turned(reversed: bool, raw: u16) -> u16
 }
 
 // The scaled position.
+#[tactic(auto, unfolding(rules::specs::Motion::scaled_position))]
 pub fn scaled_position(top: u16, q: u16) -> u32
     ensures { result ≡ motion.scaled_position (top + 1) q }
 {
@@ -75,6 +80,7 @@ pub fn scaled_position(top: u16, q: u16) -> u32
 }
 
 // Machine Position.
+#[tactic(auto, unfolding(rules::specs::Motion::machine_position))]
 pub fn machine_position(u: Setup, raw: u16) -> MachinePosition
     ensures { result ≡ motion.machine_position u raw }
 {
@@ -83,6 +89,7 @@ pub fn machine_position(u: Setup, raw: u16) -> MachinePosition
 }
 
 // Movement, with 512 added.
+#[tactic(auto, unfolding(rules::specs::Card::biased_movement))]
 pub fn biased_movement(last: Last, q: u16) -> u16
     ensures { result ≡ card.biased_movement last q }
 {
@@ -93,6 +100,7 @@ pub fn biased_movement(last: Last, q: u16) -> u16
 }
 
 // How many steps the window of C has.
+#[tactic(auto, unfolding(rules::specs::Motion::window_steps))]
 pub fn window_steps(fast: bool) -> u16
     ensures { result ≡ motion.window_steps fast }
 {
@@ -110,6 +118,7 @@ pub fn updates(size: u16, w: Window) -> bool
 }
 
 // The window's sum with one movement more.
+#[tactic(auto, unfolding(rules::specs::Card::window_sum))]
 pub fn window_sum(w: Window, m: u16) -> u32
     ensures { result ≡ card.window_sum w m }
 {
@@ -117,6 +126,7 @@ pub fn window_sum(w: Window, m: u16) -> u32
 }
 
 // The window after a step.
+#[tactic(auto, unfolding(rules::specs::Card::window_after))]
 pub fn window_after(size: u16, w: Window, m: u16) -> Window
     ensures { result ≡ card.window_after size w m }
 {
@@ -130,6 +140,7 @@ pub fn window_after(size: u16, w: Window, m: u16) -> Window
 }
 
 // rpm of |C|, rounded half up.
+#[tactic(auto, unfolding(rules::specs::Motion::rpm_of, rules::specs::Words::round_half_up, rules::specs::Motion::window_time))]
 pub fn rpm_of(fast: bool, counts: u32) -> u32
     ensures { result ≡ motion.rpm_of fast (pos counts) }
 {
@@ -140,6 +151,7 @@ pub fn rpm_of(fast: bool, counts: u32) -> u32
 }
 
 // c after a step, with what its window added.
+#[tactic(auto, unfolding(rules::specs::Card::c_after))]
 fn c_after(x: Speed, m: u16) -> u32
     ensures { result ≡ card.c_after x m }
 {
@@ -151,6 +163,7 @@ fn c_after(x: Speed, m: u16) -> u32
 }
 
 // rpm after a step.
+#[tactic(auto, unfolding(rules::specs::Card::rpm_after, rules::specs::Motion::rpm_of))]
 fn rpm_after(fast: bool, x: Speed, m: u16) -> u32
     ensures { result ≡ card.rpm_after fast x m }
 {
@@ -164,6 +177,7 @@ fn rpm_after(fast: bool, x: Speed, m: u16) -> u32
 }
 
 // The speed after a step at q.
+#[tactic(auto, unfolding(rules::specs::Card::speed_after))]
 pub fn speed_after(u: Setup, x: Speed, q: u16) -> Speed
     ensures { result ≡ card.speed_after u x q }
 {
@@ -196,6 +210,7 @@ fn power_of_ten(code: DecimalCode) -> u16
 }
 
 // Tach, rounded half up.
+#[tactic(auto, unfolding(rules::specs::Motion::tach_value, rules::specs::Words::round_half_up))]
 pub fn tach_value(k: Scalars, rpm: u32) -> u64
     ensures { result ≡ motion.tach_value k rpm }
 {
@@ -205,6 +220,7 @@ pub fn tach_value(k: Scalars, rpm: u32) -> u64
 }
 
 // A motion detector; 0/0 never.
+#[tactic(auto, unfolding(rules::specs::Motion::detects))]
 pub fn detects(d: Detector, rpm: u32) -> bool
     ensures { result ≡ motion.detects d rpm }
 {

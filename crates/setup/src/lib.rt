@@ -1,4 +1,6 @@
 // The setup words of M0: their checks, and the setup that they give.
+#![tactic(auto)]
+
 ghost use Rattle.std.specs.Prelude.{◌≡◌, ◌-◌, leb};
 ghost use Rattle.std.specs.Bool.{xor};
 ghost use Rattle.rules.specs.Words.{word, bit};
@@ -27,6 +29,7 @@ const SF_MOST: u16 = 1024;
 // ---- The checks
 
 // SFErr: the scale factor is not 2 to 1024.
+#[tactic(auto, unfolding(rules::specs::SetupWords::sf_bad))]
 fn sf_bad(sf: u16) -> bool
     ensures { result ≡ setup.sf_bad sf }
 {
@@ -37,6 +40,7 @@ fn sf_bad(sf: u16) -> bool
 }
 
 // What preset and offset are judged against.
+#[tactic(auto, unfolding(rules::specs::SetupWords::sf_judged))]
 fn sf_judged(sf: u16) -> u16
     ensures { result ≡ setup.sf_judged sf }
 {
@@ -47,6 +51,7 @@ fn sf_judged(sf: u16) -> u16
 }
 
 // MD1Err, MD2Err: a setpoint over 32,767, or equal and not zero.
+#[tactic(auto, unfolding(rules::specs::SetupWords::detector_bad))]
 fn detector_bad(low: u16, high: u16) -> bool
     ensures { result ≡ setup.detector_bad low high }
 {
@@ -63,6 +68,7 @@ fn detector_bad(low: u16, high: u16) -> bool
 }
 
 // TSErr: a scalar outside its range.
+#[tactic(auto, unfolding(rules::specs::SetupWords::scalars_bad))]
 fn scalars_bad(multiplier: u16, divisor: u16, code: u16) -> bool
     ensures { result ≡ setup.scalars_bad multiplier divisor code }
 {
@@ -79,6 +85,7 @@ fn scalars_bad(multiplier: u16, divisor: u16, code: u16) -> bool
 }
 
 // A reserved bit of the command word, or a nonzero reserved word.
+#[tactic(auto, unfolding(rules::specs::SetupWords::setup_reserved))]
 fn setup_reserved(file: &[u16]) -> bool
     ensures { result ≡ setup.setup_reserved file.now }
 {
@@ -121,6 +128,7 @@ fn scalars_fail(file: &[u16]) -> bool
 }
 
 // Word 100: all failing bits.
+#[tactic(auto, unfolding(rules::specs::SetupWords::setup_errors))]
 pub fn setup_errors(file: &[u16]) -> u16
     ensures { result ≡ setup.setup_errors file.now }
 {
@@ -161,6 +169,7 @@ fn flag(file: &[u16], n: u16) -> bool
 }
 
 // The offset in force: the words', or with the Preset bit the one that gives the preset.
+#[tactic(auto, unfolding(rules::specs::SetupWords::setup_of))]
 fn offset_of(file: &[u16], raw: u16) -> u16
     ensures { result ≡ (setup.setup_of file.now raw).offset }
 {
@@ -183,6 +192,7 @@ fn less_one(file: &[u16], at: usize) -> u16
 }
 
 // The first detector, of words 4 and 5, and the second, of words 6 and 7.
+#[tactic(auto, unfolding(rules::specs::SetupWords::setup_of))]
 fn first_detector(file: &[u16]) -> Detector
     ensures { result ≡ (setup.setup_of file.now 0).md1 }
 {
@@ -192,6 +202,7 @@ fn first_detector(file: &[u16]) -> Detector
     }
 }
 
+#[tactic(auto, unfolding(rules::specs::SetupWords::setup_of))]
 fn second_detector(file: &[u16]) -> Detector
     ensures { result ≡ (setup.setup_of file.now 0).md2 }
 {
@@ -202,6 +213,7 @@ fn second_detector(file: &[u16]) -> Detector
 }
 
 // The scalars of the words 8 to 10.
+#[tactic(auto, unfolding(rules::specs::SetupWords::setup_of))]
 fn scalars_of(file: &[u16]) -> Scalars
     ensures { result ≡ (setup.setup_of file.now 0).scalars }
 {
@@ -213,6 +225,7 @@ fn scalars_of(file: &[u16]) -> Scalars
 }
 
 // The setup that a file's words give, where the last raw is `raw`.
+#[tactic(auto, unfolding(rules::specs::SetupWords::setup_of))]
 pub fn setup_of(file: &[u16], raw: u16) -> Setup
     ensures { result ≡ setup.setup_of file.now raw }
 {
@@ -244,6 +257,7 @@ fn differ(a: bool, b: bool) -> bool
 }
 
 // A changed scale factor or mode drops group and limit programs.
+#[tactic(auto, unfolding(rules::specs::SetupWords::with_setup))]
 pub fn with_setup(p: Programming, u: Setup) -> Programming
     ensures { result ≡ setup.with_setup p u }
 {

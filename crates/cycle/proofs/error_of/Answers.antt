@@ -2,16 +2,16 @@
 use Rattle.cycle.proofs.error_of.Goals as goal
 
 pub returns-in-SetupData : goal.returns-in-SetupData
-returns-in-SetupData c = rw c.enum_told-1.given.1
+returns-in-SetupData c = rw c.in-SetupData.is
 
 pub returns-in-GroupData : goal.returns-in-GroupData
-returns-in-GroupData c = rw c.enum_told-in-GroupData-1.given.1
+returns-in-GroupData c = rw c.in-GroupData.is
 
 pub returns-in-LimitData : goal.returns-in-LimitData
-returns-in-LimitData c = rw c.enum_told-in-LimitData-1.given.1
+returns-in-LimitData c = rw c.in-LimitData.is
 
 pub returns-in-NudgeOutput : goal.returns-in-NudgeOutput
-returns-in-NudgeOutput c = rw c.enum_told-in-NudgeOutput-1.given.1
+returns-in-NudgeOutput c = rw c.in-NudgeOutput.is
 
 pub returns-in-NudgeSetpoint : goal.returns-in-NudgeSetpoint
-returns-in-NudgeSetpoint c = rw c.enum_told-in-NudgeSetpoint-1.given.1
+returns-in-NudgeSetpoint c = rw c.in-NudgeSetpoint.is

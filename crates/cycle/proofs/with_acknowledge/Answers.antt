@@ -11,4 +11,4 @@ pub returns-in-LimitCycle : goal.returns-in-LimitCycle
 returns-in-LimitCycle c = rw (c.in-OfFile.is, c.in-LimitCycle.is)
 
 pub returns-in-NudgeCycle : goal.returns-in-NudgeCycle
-returns-in-NudgeCycle c = rw c.enum_told-in-NudgeCycle-1.given.1
+returns-in-NudgeCycle c = rw c.in-NudgeCycle.is

@@ -1,13 +1,12 @@
 -- What an accepted cycle brings, and what it drops. Card and History share these rules, so that the history does not see them. Assumes nothing.
 use Prim.Native.Nat.{ℕ, ◌+◌, ◌-◌, ◌*◌, ◌/◌, ◌%◌, ◌<◌}
 use mathlib.Core.Path.{◌≡◌, refl, ap, ◌∙◌}
-use mathlib.Core.Bool.{Bool, true, false, cond, xor, ◌||◌}
+use mathlib.Core.Bool.{Bool, true, false, xor, ◌||◌}
 use mathlib.Core.List.{List}
 use native.Mathlib.Nat.{mod-eq_of_lt, add-mod-mod, add-mul-mod_self_right, div-add-mod'}
 use native.Mathlib.Omega.{arith}
 use borrow.Author.Tests.{eq-eqb, ne_eqb}
 use lib.ListN.{replicate}
-use lib.Dec.{eqb}
 use lib.IntN.{sub_ℕ}
 use Rattle.rules.specs.declared.Setup.{Setup}
 use Rattle.rules.specs.declared.Group.{Group}

@@ -1,7 +1,7 @@
 -- 01, "Cases shown": its lettered lines a) to i) as one table, and after them what 01 says of definitions that a card's calls and its history share, so that a
 -- theorem that equates the two does not see them. proofs/Cases.antt has the theorem that the definitions give what each line says.
 -- Assumes nothing.
-use Rattle.std.specs.Prelude.{ℕ, zero, suc, ◌+◌, ◌*◌, ◌^◌, ◌%◌, Bool, true, false, cond, not, ◌&&◌, ◌||◌, List, [], ◌∷◌, ◌++◌, map, ◌≡◌, replicate, set, ltb, eqb, ℤ, pos, negsuc}
+use Rattle.std.specs.Prelude.{ℕ, zero, suc, ◌+◌, ◌^◌, ◌%◌, Bool, true, false, cond, not, ◌&&◌, ◌||◌, List, [], ◌∷◌, ◌++◌, map, ◌≡◌, replicate, set, ltb, eqb, ℤ, pos, negsuc}
 use Rattle.rules.specs.declared.Position.TheVariants.{OfMachine, OfGroup}
 use Rattle.rules.specs.declared.Model.{Model}
 use Rattle.rules.specs.declared.Model.TheVariants.{NoModule, M8511, M8512, M8513}
@@ -9,18 +9,14 @@ use Rattle.rules.specs.declared.Mode.TheVariants.{NoMode, Mode0, Mode1, Mode2, M
 use Rattle.rules.specs.declared.Errors.{Errors}
 use Rattle.rules.specs.declared.Refusal.{Refusal}
 use Rattle.rules.specs.declared.Refusal.TheVariants.{M0Length, M1Length, UnknownModule, BlockNumber, Ignored, SetupData, GroupData, LimitData, NudgeOutput, NudgeSetpoint, Transducer, TraceFile, ByteOffset, ReadOnlyByte}
-use Rattle.rules.specs.declared.Action.{Action}
 use Rattle.rules.specs.declared.Advance.{Advance}
 use Rattle.rules.specs.declared.Limit.{Limit}
 use Rattle.rules.specs.declared.Group.{Group}
-use Rattle.rules.specs.declared.Detector.{Detector}
-use Rattle.rules.specs.declared.Scalars.{Scalars}
 use Rattle.rules.specs.declared.Setup.{Setup}
 use Rattle.rules.specs.declared.Programming.{Programming}
 use Rattle.rules.specs.declared.Sample.{Sample}
 use Rattle.rules.specs.declared.Conditions.{Conditions}
 use Rattle.rules.specs.declared.Answer.{Answer}
-use Rattle.rules.specs.declared.OutputWords.{OutputWords}
 use Rattle.rules.specs.declared.GroupState.{GroupState}
 use Rattle.rules.specs.declared.FileCycle.{FileCycle}
 use Rattle.rules.specs.declared.FileCycle.TheVariants.{SetupCycle, GroupCycle, LimitCycle}
@@ -31,7 +27,7 @@ use Rattle.rules.specs.declared.Bus.{Bus}
 use Rattle.rules.specs.Words.{digit, word, bits, word_of, bytes_of, table, stored_at, other_bit, any_word, signed_word, differing, forced}
 use Rattle.rules.specs.Variants.{group_mode, real_count, virtual_count, anded_of}
 use Rattle.rules.specs.Counts.{ahead, holds}
-use Rattle.rules.specs.Motion.{real_input, turned, scaled_position, machine_position, window_steps, tach_shown, tach_overflow, rpm_of, detects, conditions_with, conditions, fault_conditions, biased_c}
+use Rattle.rules.specs.Motion.{real_input, turned, scaled_position, machine_position, window_steps, tach_shown, tach_overflow, rpm_of, detects, conditions, fault_conditions, biased_c}
 use Rattle.rules.specs.Groups.{group_position, group_event, is_open}
 use Rattle.rules.specs.Switches.{moved, pair_length, pair_holds, normal_holds, pulse_holds, present, admitted, enable_holds, detector_holds, output_words, changed_count, answer_of}
 use Rattle.rules.specs.Cycle.{number_of, outcome_number, with_programming, error_of}

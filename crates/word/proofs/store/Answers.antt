@@ -34,7 +34,6 @@ loop-k-preserved c =
       rw (add-one, stored_more a.at l.k a.words.now a.file.now (omega arith), ← l.invariant.3),
     )
 
-
 pub returns : goal.returns
 returns c =
     let a = c.args in

@@ -1,4 +1,4 @@
-"""Tests of the program frame, target/bin/frame: by pipes, and over a pseudo-terminal pair as over a real line.
+"""Tests of the program frame, crates/frame/out/frame: by pipes, and over a pseudo-terminal pair as over a real line.
 
     rt check frame && python3 -m unittest tests/test_frame.py
 

@@ -5,7 +5,7 @@ use std::path::PathBuf;
 
 fn main() {
     let package = PathBuf::from(env::var("CARGO_MANIFEST_DIR").expect("cargo sets it"));
-    let folder = package.join("../../target/staticlib");
+    let folder = package.join("../../crates/card/out");
     let archive = folder.join("libcard.a");
     assert!(
         archive.is_file(),

@@ -1,4 +1,4 @@
-//! The card's own loop: the calls of target/staticlib/libcard.a on a module
+//! The card's own loop: the calls of crates/card/out/libcard.a on a module
 //! that stays where it is, and a replay over them.
 
 pub mod bench;

@@ -14,7 +14,7 @@ pub fn printed(source: &str, flags: &[&str]) -> String {
         .arg("-I")
         .arg(root.join("crates/card/include"))
         .arg(root.join(source))
-        .arg(root.join("target/staticlib/libcard.a"))
+        .arg(root.join("crates/card/out/libcard.a"))
         .arg("-o")
         .arg(&program)
         .status()

@@ -1,9 +1,8 @@
 -- `group_block::dealt_to` meets its contract: a group that takes less leaves the rest to the groups after it. Assumes nothing.
 use Rattle.group_block.specs.Blocks.{share_of}
-use Prim.Native.Nat.{◌+◌, ◌-◌, ◌≤◌}
 use mathlib.Core.Path.{◌≡◌, refl, sym, ◌∙◌}
 use native.Mathlib.Omega.{arith}
-use lib.ListN.{length, get_or, drop, drop_of_length-le}
+use lib.ListN.{get_or, drop_of_length-le}
 use borrow.Author.Tests.{lt-ltb, le-ltb}
 use Rattle.rules.specs.Groups.{no_group}
 use Rattle.rules.specs.GroupWords.{dealt_to}
@@ -14,23 +13,20 @@ use Rattle.group_block.proofs.dealt_to.Goals as goal
 pub loop-k-init : goal.loop-k-init
 loop-k-init c = (omega arith, search rules, refl)
 
-pub share-taken-requires : goal.share-taken-requires
-share-taken-requires c = tt
-
 pub returns-then-left-taken : goal.returns-then-left-taken
 returns-then-left-taken c =
     let a = c.args in
     let l = c.loop-k in
-    let q : c.share-taken.result ≡ share_of a.t (get_or a.t1 l.k no_group) = c.share-taken.ensures in
-    let turn = dealt_turn a.t a.t1 l.k l.left no_group (omega (arith, l.invariant.1)) in
+    let q : c.share-taken.result ≡ share_of a.t (get_or a.groups l.k no_group) = c.share-taken.ensures in
+    let turn = dealt_turn a.t a.groups l.k l.left no_group (omega (arith, l.invariant.1)) in
     sym (l.invariant.2 ∙ turn ∙ rw (← q, lt-ltb _ _ c.if-left-taken.true))
 
 pub loop-k-preserved : goal.loop-k-preserved
 loop-k-preserved c =
     let a = c.args in
     let l = c.loop-k in
-    let q : c.share-taken.result ≡ share_of a.t (get_or a.t1 l.k no_group) = c.share-taken.ensures in
-    let turn = dealt_turn a.t a.t1 l.k l.left no_group (omega (arith, l.invariant.1)) in
+    let q : c.share-taken.result ≡ share_of a.t (get_or a.groups l.k no_group) = c.share-taken.ensures in
+    let turn = dealt_turn a.t a.groups l.k l.left no_group (omega (arith, l.invariant.1)) in
     (omega arith, l.invariant.1, l.invariant.2 ∙ turn ∙ rw (← q, le-ltb _ _ c.if-left-taken.false))
 
 pub returns : goal.returns
@@ -38,4 +34,4 @@ unfolding dealt_to
 returns c =
     let l = c.loop-k in
     let e : l.k ≡ 6 = omega arith in
-    sym (l.invariant.2 ∙ rw (e, drop_of_length-le c.args.t1 {i = 6} (omega (arith, l.invariant.1))))
+    sym (l.invariant.2 ∙ rw (e, drop_of_length-le c.args.groups {i = 6} (omega (arith, l.invariant.1))))

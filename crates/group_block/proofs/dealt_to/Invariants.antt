@@ -1,13 +1,7 @@
-use Rattle.group_block.specs.Blocks.{share_of}
 use Prim.Native.Nat.{◌+◌, ◌-◌, ◌≤◌}
-use mathlib.Core.Path.{◌≡◌, refl, sym, ◌∙◌}
-use native.Mathlib.Omega.{arith}
-use lib.ListN.{length, get_or, drop, drop_of_length-le}
-use borrow.Author.Tests.{lt-ltb, le-ltb}
-use Rattle.rules.specs.Groups.{no_group}
+use mathlib.Core.Path.{◌≡◌}
+use lib.ListN.{length, drop}
 use Rattle.rules.specs.GroupWords.{dealt_to}
-use Rattle.group_block.proofs.Laws.{dealt_turn}
-use borrow.Author.Rules.{rules}
 use Rattle.group_block.proofs.dealt_to.Given as goal
 
 abbrev pub invariant-loop-k : goal.invariant-loop-k

@@ -1,5 +1,4 @@
 -- `group_block::dealt_up_to` meets its contract: one group more at each turn. Assumes nothing.
-use Prim.Native.Nat.{◌-◌, ◌*◌, ◌≤◌}
 use mathlib.Core.Path.{◌≡◌, refl}
 use native.Mathlib.Omega.{arith}
 use Rattle.rules.specs.GroupWords.{dealt_up_to}
@@ -10,18 +9,12 @@ pub loop-k-init : goal.loop-k-init
 unfolding dealt_up_to
 loop-k-init c = (omega arith, refl, omega arith)
 
-pub group_of-requires : goal.group_of-requires
-group_of-requires c = tt
-
-pub share-requires : goal.share-requires
-share-requires c = tt
-
 pub loop-k-preserved : goal.loop-k-preserved
 loop-k-preserved c =
     let a = c.args in
     let l = c.loop-k in (
       omega arith,
-      rw (c.share.ensures, c.Group-of.ensures, l.invariant.1) (dealt_more a.file.now a.t l.k),
+      rw (c.share.ensures, c.group_of.ensures, l.invariant.1) (dealt_more a.file.now a.t l.k),
       omega arith,
     )
 

@@ -1,8 +1,6 @@
 use Prim.Native.Nat.{◌-◌, ◌*◌, ◌≤◌}
-use mathlib.Core.Path.{◌≡◌, refl}
-use native.Mathlib.Omega.{arith}
+use mathlib.Core.Path.{◌≡◌}
 use Rattle.rules.specs.GroupWords.{dealt_up_to}
-use Rattle.group_block.proofs.Laws.{dealt_more}
 use Rattle.group_block.proofs.dealt_up_to.Given as goal
 
 abbrev pub invariant-loop-k : goal.invariant-loop-k

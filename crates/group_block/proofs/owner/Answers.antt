@@ -3,15 +3,9 @@ use borrow.Author.Tests.{lt-ltb, le-ltb}
 use Rattle.group_block.specs.Blocks.{owner_in}
 use Rattle.group_block.proofs.owner.Goals as goal
 
-pub dealt_to-requires : goal.dealt_to-requires
-dealt_to-requires c = tt
-
 pub returns-then-n-lt16 : goal.returns-then-n-lt16
 unfolding owner_in
 returns-then-n-lt16 c = rw (lt-ltb _ _ c.if-n-lt16.true) c.dealt_to.ensures
-
-pub dealt_to-requires-2 : goal.dealt_to-requires-2
-dealt_to-requires-2 c = tt
 
 pub returns : goal.returns
 unfolding owner_in

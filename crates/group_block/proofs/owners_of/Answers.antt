@@ -1,8 +1,8 @@
 -- `group_block::owners_of` meets its contract: one output more at each turn. Assumes nothing.
-use Prim.Native.Nat.{◌+◌, ◌-◌, ◌≤◌}
+use Prim.Native.Nat.{◌+◌}
 use mathlib.Core.Path.{◌≡◌, refl, sym, ◌∙◌}
 use native.Mathlib.Omega.{arith}
-use lib.ListN.{length, take, length-set}
+use lib.ListN.{length-set}
 use lib.Seq.{take-suc-set, take_all}
 use native.Mathlib.Numerals.{add-one}
 use Rattle.rules.specs.Words.{table}
@@ -15,9 +15,6 @@ use Rattle.group_block.proofs.owners_of.Goals as goal
 pub loop-k-init : goal.loop-k-init
 unfolding table
 loop-k-init c = (omega arith, search rules, refl)
-
-pub owner-requires : goal.owner-requires
-owner-requires c = tt
 
 pub loop-k-preserved : goal.loop-k-preserved
 loop-k-preserved c =

@@ -1,14 +1,8 @@
-use Prim.Native.Nat.{◌+◌, ◌-◌, ◌≤◌}
-use mathlib.Core.Path.{◌≡◌, refl, sym, ◌∙◌}
-use native.Mathlib.Omega.{arith}
-use lib.ListN.{length, take, length-set}
-use lib.Seq.{take-suc-set, take_all}
-use native.Mathlib.Numerals.{add-one}
+use Prim.Native.Nat.{◌-◌, ◌≤◌}
+use mathlib.Core.Path.{◌≡◌}
+use lib.ListN.{length, take}
 use Rattle.rules.specs.Words.{table}
 use Rattle.group_block.specs.Blocks.{owner_in}
-use Rattle.rules.proofs.Packing.{table_more}
-use Rattle.group_block.proofs.Laws.{owners_table}
-use borrow.Author.Rules.{rules}
 use Rattle.group_block.proofs.owners_of.Given as goal
 
 abbrev pub invariant-loop-k : goal.invariant-loop-k

@@ -5,5 +5,4 @@ use Rattle.group_block.proofs.program_bad.Goals as goal
 pub returns : goal.returns
 unfolding group_program_bad
 returns c =
-    let at = c in
-    rw (c.too_many.ensures, c.lacks_first_cycle.ensures, c.other_bit.ensures, c.mode_number.ensures, at.type_of-kind.ensures, at.bit.ensures, at.quantity-taken.ensures, at.group_word-control.ensures)
+    rw (c.too_many.ensures, c.lacks_first_cycle.ensures, c.other_bit.ensures, c.mode_number.ensures, c.type_of-kind.ensures, c.bit.ensures, c.quantity-taken.ensures, c.group_word-control.ensures)

@@ -1,4 +1,6 @@
 // The group words of M0: words 110 and 111, and the programming that acceptance brings. `top` is the scale factor less one.
+#![tactic(auto)]
+
 ghost use Rattle.std.specs.Prelude.{◌≡◌, not, ◌+◌, eqb};
 ghost use Rattle.rules.specs.Words.{lowest_of};
 ghost use Rattle.rules.specs.GroupWords as group;
@@ -10,6 +12,7 @@ use word::Layout;
 pub const COMMAND: usize = 20;
 
 // A reserved bit of the command word, or a nonzero reserved word.
+#[tactic(auto, unfolding(rules::specs::GroupWords::group_reserved))]
 fn group_reserved(file: &[u16]) -> bool
     ensures { result ≡ group.group_reserved file.now }
 {
@@ -23,6 +26,7 @@ fn group_reserved(file: &[u16]) -> bool
 }
 
 // The lowest of the six groups that fails its checks, 0 if none does.
+#[tactic(auto, unfolding(rules::specs::Words::lowest_of))]
 fn lowest_failing(m: Model, top: u16, file: &[u16]) -> u16
     ensures { result ≡ lowest_of 6 1 (λ n. not (eqb (group.group_bits m (top + 1) file.now n) 0)) }
 {
@@ -39,6 +43,7 @@ fn lowest_failing(m: Model, top: u16, file: &[u16]) -> u16
 }
 
 // Word 111: the lowest failing group; 0 where a reserved bit or word is bad.
+#[tactic(auto, unfolding(rules::specs::GroupWords::failing_group))]
 pub fn failing_group(m: Model, top: u16, file: &[u16]) -> u16
     ensures { result ≡ group.failing_group m (top + 1) file.now }
 {
@@ -49,6 +54,7 @@ pub fn failing_group(m: Model, top: u16, file: &[u16]) -> u16
 }
 
 // Word 110: the lowest failing group's bits, or bit 15 alone.
+#[tactic(auto, unfolding(rules::specs::GroupWords::group_errors))]
 pub fn group_errors(m: Model, top: u16, file: &[u16]) -> u16
     ensures { result ≡ group.group_errors m (top + 1) file.now }
 {
@@ -63,6 +69,7 @@ pub fn group_errors(m: Model, top: u16, file: &[u16]) -> u16
 }
 
 // Acceptance drops limit programs.
+#[tactic(auto, unfolding(rules::specs::GroupWords::with_groups))]
 pub fn with_groups(p: Programming, gs: [Group; 6]) -> Programming
     ensures { result ≡ group.with_groups p gs }
 {

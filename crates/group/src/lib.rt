@@ -1,4 +1,5 @@
 // One group's step in its six modes. `top` is the scale factor less one.
+#![tactic(auto)]
 
 ghost use Rattle.std.specs.Prelude.{◌≡◌, cond, not, ◌&&◌, ◌||◌, ◌+◌};
 ghost use Rattle.rules.specs.Groups as groups;
@@ -9,7 +10,7 @@ use rules::variants::mode_of;
 use rules::{Event, Group, GroupPosition, GroupState, MachinePosition, Mode, Pair};
 
 // A group under a shift: its position, and whether its dwell holds there.
-#[derive(Drop)]
+#[derive(Clone, Copy)]
 struct Place {
     pub shift: u16,
     pub position: GroupPosition,
@@ -18,7 +19,7 @@ struct Place {
 
 // What a group meets in a step, worked out: its dwell begins, its input has an edge, the edge is taken, the dwell holds at the step's end, the step is a
 // qualifying one, and one came since the dwell began.
-#[derive(Drop)]
+#[derive(Clone, Copy)]
 struct Turn {
     pub begins: bool,
     pub edge: bool,
@@ -29,13 +30,14 @@ struct Turn {
 }
 
 // A group after a step, and the Group Position that the step leaves.
-#[derive(Drop)]
+#[derive(Clone, Copy)]
 pub struct GroupStep {
     pub state: GroupState,
     pub position: GroupPosition,
 }
 
 // From Machine Position to Group Position, by the group's offset or by the shift.
+#[tactic(auto, unfolding(rules::specs::Groups::group_position))]
 pub fn group_position(top: u16, by: u16, m: MachinePosition) -> GroupPosition
     ensures { result ≡ groups.group_position (top + 1) by m }
 {
@@ -43,6 +45,7 @@ pub fn group_position(top: u16, by: u16, m: MachinePosition) -> GroupPosition
 }
 
 // The shift by which the position becomes the preset.
+#[tactic(auto, unfolding(rules::specs::Groups::preset_shift))]
 pub fn preset_shift(top: u16, preset: u16, m: MachinePosition) -> u16
     ensures { result ≡ groups.preset_shift (top + 1) preset m }
 {
@@ -50,6 +53,7 @@ pub fn preset_shift(top: u16, preset: u16, m: MachinePosition) -> u16
 }
 
 // The dwell holds at a Group Position. That its counts are in range is tested once; on that way the tests within `holds` are decided.
+#[tactic(auto, unfolding(rules::specs::Groups::dwell_holds))]
 pub fn dwell_holds(top: u16, d: Pair, p: GroupPosition) -> bool
     ensures { result ≡ groups.dwell_holds (top + 1) d p }
 {
@@ -60,6 +64,7 @@ pub fn dwell_holds(top: u16, d: Pair, p: GroupPosition) -> bool
 }
 
 // Modes 1 and 2: Machine Position plus a shift, which a taken edge presets.
+#[tactic(auto, unfolding(rules::specs::Groups::presets))]
 fn presets(mode: Mode) -> bool
     ensures { result ≡ groups.presets mode }
 {
@@ -82,6 +87,7 @@ fn edge(before: bool, now: bool) -> bool
 }
 
 // A stop: an update with rpm 0.
+#[tactic(auto, unfolding(rules::specs::Groups::stops, rules::specs::Motion::is_stop))]
 fn stops(e: Event) -> bool
     ensures { result ≡ groups.stops e }
 {
@@ -89,6 +95,7 @@ fn stops(e: Event) -> bool
 }
 
 // What makes a step in the dwell a qualifying one: input active, rpm not 0.
+#[tactic(auto, unfolding(rules::specs::Groups::running))]
 fn running(e: Event) -> bool
     ensures { result ≡ groups.running e }
 {
@@ -113,6 +120,7 @@ fn position_by(top: u16, g: Group, mode: Mode, shift: u16, m: MachinePosition) -
 }
 
 // A group's place in a mode, where the shift is `shift`; the only test of its dwell.
+#[tactic(auto, unfolding(crate::specs::Step::place_at))]
 fn place_by(top: u16, g: Group, mode: Mode, shift: u16, m: MachinePosition) -> Place
     ensures { result ≡ steps.place_at (top + 1) g mode shift m }
 {
@@ -171,6 +179,7 @@ fn opened_in(mode: Mode, two: bool, four: bool, five: bool) -> bool
 }
 
 // A group is open: always in Modes 0 and 1, while its input is active in Mode 3, by what came before in Modes 2, 4 and 5.
+#[tactic(auto, unfolding(rules::specs::Groups::is_open))]
 pub fn is_open(mode: Mode, level: bool, opened: bool) -> bool
     ensures { result ≡ groups.is_open mode level opened }
 {
@@ -186,6 +195,7 @@ pub fn is_open(mode: Mode, level: bool, opened: bool) -> bool
 }
 
 // Openness of Modes 2, 4 and 5 after a step.
+#[tactic(auto, unfolding(crate::specs::Step::opened_after))]
 fn opened_after(mode: Mode, x: GroupState, e: Event, t: Turn) -> bool
     ensures { result ≡ steps.opened_after mode x e t }
 {
@@ -198,6 +208,7 @@ fn opened_after(mode: Mode, x: GroupState, e: Event, t: Turn) -> bool
 }
 
 // A group's step.
+#[tactic(auto, unfolding(crate::specs::Step::place_at, rules::specs::Card::begins_now, rules::specs::Card::position_by, rules::specs::Card::takes_now, rules::specs::Card::shift_now, rules::specs::Card::held_now, rules::specs::Card::position_now, rules::specs::Card::qualified_now, rules::specs::Card::opened_now, crate::specs::Step::opened_after, rules::specs::Card::group_after))]
 pub fn group_step(top: u16, g: Group, x: GroupState, e: Event) -> GroupStep
     ensures { (result.state ≡ card.group_after (top + 1) g x e) × (result.position ≡ card.position_now (top + 1) g x e) }
 {

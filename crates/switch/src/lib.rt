@@ -1,4 +1,5 @@
 // Limit switches: a pair at a position, advances, normal, pulse and timed switches. `top` is the scale factor less one.
+#![tactic(auto)]
 
 ghost use Rattle.std.specs.Prelude.{false, ◌≡◌, ◌+◌, ◌%◌, get_or, ◌-ℤ◌};
 ghost use Rattle.std.proofs.Math.IntN.{sub_ℕ};
@@ -15,6 +16,7 @@ use rules::{Advance, Limit, Position, Speed, Switch, TimedState};
 const SHIFT_BIAS: u64 = 140737488355328;
 
 // The magnitude of s: advance × c × SF / 245760. The whole product fits in 64 bits.
+#[tactic(auto, unfolding(crate::specs::Parts::shift_counts))]
 fn shift_counts(top: u16, tenths: u16, counts: u32) -> u64
     ensures { result ≡ shift_counts (top + 1) tenths counts }
 {
@@ -59,6 +61,7 @@ fn taken_back(top: u16, s: u64, p: u16) -> u16
 }
 
 // ON shift less OFF shift, both with their bias, and SF more. From a turn on to either side it makes no difference how much it is.
+#[tactic(auto, unfolding(crate::specs::Parts::spread_of))]
 fn spread(top: u16, on: u64, off: u64) -> u32
     ensures { result ≡ spread_of (top + 1) (sub_ℕ on off) }
 {
@@ -96,7 +99,7 @@ fn setpoint(setpoints: [u16; 16], i: usize) -> u16
 }
 
 // What the pairs of a switch are tested with, worked out once for all of them.
-#[derive(Drop)]
+#[derive(Clone, Copy)]
 struct Displaced {
     // The position, taken back by the ON displacement.
     pub from: u16,
@@ -118,6 +121,7 @@ fn displace(top: u16, c: u32, l: Limit, p: Position) -> Displaced
 
 // One pair: how far the position is from its start, less the pair's own length, against the spread. For how long it holds is decided here. That
 // all its counts are in range is tested once for the pair: on that way the tests within `ahead` are decided, and no division is left.
+#[tactic(auto, unfolding(crate::specs::Parts::pair_at))]
 fn pair_at(top: u16, from: u16, spread: u32, on: u16, off: u16) -> bool
     ensures { result ≡ pair_at (top + 1) from spread on off }
 {
@@ -135,6 +139,7 @@ fn pair_at(top: u16, from: u16, spread: u32, on: u16, off: u16) -> bool
 }
 
 // The loop that tests the pairs of a normal switch, up to the first that holds.
+#[tactic(auto, unfolding(crate::specs::Parts::some_pair, crate::specs::Parts::pair_of, rules::specs::Words::some_of))]
 fn some_pair(top: u16, from: u16, spread: u32, setpoints: [u16; 16]) -> bool
     ensures { result ≡ some_pair (top + 1) from spread setpoints }
 {
@@ -181,6 +186,7 @@ pub fn pulse_start(r: u16, q: u16, k: u16, j: u16) -> u32
 }
 
 // The last pulse that has started at `at` counts from the train's start.
+#[tactic(auto, unfolding(crate::specs::Parts::last_pulse))]
 fn last_pulse(r: u16, q: u16, k: u16, at: u16) -> u16
     ensures { result ≡ last_pulse r q k at }
 {
@@ -198,6 +204,7 @@ fn last_pulse(r: u16, q: u16, k: u16, at: u16) -> u16
 }
 
 // Pulse: some pulse is on at `at` counts from the train's start. Only the last one that has started can be.
+#[tactic(auto, unfolding(rules::specs::Switches::pulse_on, rules::specs::Words::some_of))]
 pub fn pulse_on(r: u16, q: u16, k: u16, at: u16) -> bool
     ensures { result ≡ pulse_on r q k at }
 {
@@ -209,6 +216,7 @@ pub fn pulse_on(r: u16, q: u16, k: u16, at: u16) -> bool
 }
 
 // A pulse switch at c: R from the unmoved pair, the train from the ON setpoint moved by the ON advance.
+#[tactic(auto, unfolding(crate::specs::Parts::taken_back, rules::specs::Switches::pulse_holds))]
 fn pulse_holds(top: u16, c: u32, l: Limit, q: u16, k: u16, p: Position) -> bool
     ensures { result ≡ pulse_holds (top + 1) (c_value c) l q k p }
 {
@@ -228,6 +236,7 @@ fn pulse_holds(top: u16, c: u32, l: Limit, q: u16, k: u16, p: Position) -> bool
 }
 
 // A switch holds. `lasting` says of a timed one that its time has not run out.
+#[tactic(auto, unfolding(rules::specs::Switches::switch_holds))]
 pub fn switch_holds(top: u16, c: u32, l: Limit, p: Position, lasting: bool) -> bool
     ensures { result ≡ switch_holds (top + 1) (c_value c) l (limit_switch l) p lasting }
 {
@@ -246,6 +255,7 @@ pub fn switch_holds(top: u16, c: u32, l: Limit, p: Position, lasting: bool) -> b
 }
 
 // The steps for which a timed switch is on, this one included: 5 × T from where its pair began to hold.
+#[tactic(auto, unfolding(crate::specs::Parts::timed_left))]
 fn timed_left(t: u16, held: bool, before: bool, left: u32) -> u32
     ensures { result ≡ timed_left t held before left }
 {
@@ -262,6 +272,7 @@ fn timed_left(t: u16, held: bool, before: bool, left: u32) -> u32
 }
 
 // A timed switch after a step at whose end its pair held or not.
+#[tactic(auto, unfolding(rules::specs::Card::timed_after, crate::specs::Parts::timed_left))]
 pub fn timed_after(s: Switch, held: bool, x: TimedState) -> TimedState
     ensures { result ≡ timed_after s held x }
 {

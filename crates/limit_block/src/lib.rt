@@ -1,4 +1,5 @@
 // One limit block of M1: its checks, the bits of word 630, and the program that it gives. `top` is the scale factor less one.
+#![tactic(auto)]
 
 ghost use Rattle.std.specs.Prelude.{false, ◌&&◌, ◌||◌, [], ◌∷◌, ◌≡◌, ◌+◌, ◌-◌, leb, ltb, eqb, nat_abs};
 ghost use Rattle.rules.specs.Words.{word, bits, signed_word, some_of, table};
@@ -18,6 +19,7 @@ const ENABLE: u16 = 15;
 // ---- The checks
 
 // The magnitude of a word read as two's complement.
+#[tactic(auto, unfolding(rules::specs::Words::signed_word))]
 fn magnitude(w: u16) -> u16
     ensures { result ≡ nat_abs (signed_word w) }
 {
@@ -28,6 +30,7 @@ fn magnitude(w: u16) -> u16
 }
 
 // Bit 2, advance: outside −999 to 999.
+#[tactic(auto, unfolding(rules::specs::LimitWords::advance_bad))]
 fn advance_bad(w: u16) -> bool
     ensures { result ≡ limit.advance_bad w }
 {
@@ -35,6 +38,7 @@ fn advance_bad(w: u16) -> bool
 }
 
 // Bit 1, control: detector or type 3, or another bit set.
+#[tactic(auto, unfolding(rules::specs::LimitWords::control_bad))]
 fn control_bad(w: u16) -> bool
     ensures { result ≡ limit.control_bad w }
 {
@@ -48,6 +52,7 @@ fn control_bad(w: u16) -> bool
 }
 
 // Q or K 0 or, with bit 3 clear, R < Q × K + Q − 1.
+#[tactic(auto, unfolding(rules::specs::LimitWords::pulse_bad))]
 pub fn pulse_bad(bit3: bool, r: u16, q: u16, k: u16) -> bool
     ensures { result ≡ limit.pulse_bad bit3 r q k }
 {
@@ -64,6 +69,7 @@ pub fn pulse_bad(bit3: bool, r: u16, q: u16, k: u16) -> bool
 }
 
 // A pulse starts no later than where the one before it ends.
+#[tactic(auto, unfolding(rules::specs::Words::some_of))]
 fn some_touch(r: u16, q: u16, k: u16) -> bool
     ensures { result ≡ some_of (q - 1) 0 (λ j. leb (switches.pulse_start r q k (j + 1)) (switches.pulse_start r q k j + k)) }
 {
@@ -80,6 +86,7 @@ fn some_touch(r: u16, q: u16, k: u16) -> bool
 }
 
 // Two pulses touch, the first one after the last, round the turn, too.
+#[tactic(auto, unfolding(rules::specs::LimitWords::pulses_touch))]
 pub fn pulses_touch(top: u16, r: u16, q: u16, k: u16) -> bool
     ensures { result ≡ limit.pulses_touch (top + 1) r q k }
 {
@@ -101,6 +108,7 @@ fn block_start(n: u16) -> usize
 }
 
 // The words of limit block n, n from 1.
+#[tactic(auto, unfolding(rules::specs::Words::table, rules::specs::LimitWords::limit_block))]
 fn block(file: &[u16], n: u16) -> [u16; 19]
     ensures { result ≡ limit.limit_block file.now n }
 {
@@ -115,6 +123,7 @@ fn block(file: &[u16], n: u16) -> [u16; 19]
 }
 
 // A block's words are all 0.
+#[tactic(auto, unfolding(rules::specs::LimitWords::all_zero, rules::specs::Words::each_of))]
 fn all_zero(b: [u16; 19]) -> bool
     ensures { result ≡ limit.all_zero b }
 {
@@ -136,6 +145,7 @@ fn timed_block(file: &[u16], n: u16) -> bool
 }
 
 // Output n, from 1, is at least the fifth timed of its kind: four of the lower ones of its sixteen are timed.
+#[tactic(auto, unfolding(rules::specs::LimitWords::fifth_timed, rules::specs::Words::count_of))]
 fn fifth_timed(file: &[u16], n: u16) -> bool
     ensures { result ≡ limit.fifth_timed file.now n }
 {
@@ -150,6 +160,7 @@ fn fifth_timed(file: &[u16], n: u16) -> bool
 }
 
 // Some of the eight pairs of a normal switch's block is bad.
+#[tactic(auto, unfolding(rules::specs::LimitWords::block_pair_bad, rules::specs::Words::some_of))]
 fn some_pair_bad(top: u16, b: [u16; 19]) -> bool
     ensures { result ≡ some_of 8 0 (limit.block_pair_bad (top + 1) b) }
 {
@@ -164,6 +175,7 @@ fn some_pair_bad(top: u16, b: [u16; 19]) -> bool
 }
 
 // Bit 3, setpoint: of a normal switch any of the eight pairs, of the others the first.
+#[tactic(auto, unfolding(rules::specs::LimitWords::setpoint_bad, rules::specs::LimitWords::block_pair_bad))]
 fn setpoint_bad(top: u16, b: [u16; 19]) -> bool
     ensures { result ≡ limit.setpoint_bad (top + 1) b }
 {
@@ -190,6 +202,7 @@ fn duration_bad(fifth: bool, used: bool, t: u16) -> bool
 }
 
 // Bit 4, where bit 3 is `bit3`: the length of a train, a timed switch's duration or number.
+#[tactic(auto, unfolding(rules::specs::LimitWords::length_bad))]
 fn length_bad(top: u16, fifth: bool, bit3: bool, b: [u16; 19]) -> bool
     ensures { result ≡ limit.length_bad (top + 1) fifth bit3 b }
 {
@@ -207,6 +220,7 @@ fn length_bad(top: u16, fifth: bool, bit3: bool, b: [u16; 19]) -> bool
 }
 
 // Bit 5, two pulses touch, tested where bits 3 and 4 are clear.
+#[tactic(auto, unfolding(rules::specs::LimitWords::touch_bad))]
 fn touch_bad(top: u16, bit3: bool, bit4: bool, b: [u16; 19]) -> bool
     ensures { result ≡ limit.touch_bad (top + 1) bit3 bit4 b }
 {
@@ -243,6 +257,7 @@ fn advances_bad(on: u16, off: u16) -> bool
 }
 
 // Bits 1 to 5 of word 630 for a block; of type 3 only 1 and 2 are tested. `fifth` says that the output is at least the fifth timed of its kind.
+#[tactic(auto, unfolding(rules::specs::LimitWords::block_bits, rules::specs::LimitWords::length_bit, rules::specs::LimitWords::touch_bit))]
 fn block_bits(top: u16, fifth: bool, b: [u16; 19]) -> u16
     ensures { result ≡ limit.block_bits (top + 1) fifth b }
 {
@@ -267,6 +282,7 @@ pub fn bits_of(top: u16, file: &[u16], n: u16) -> u16
 // ---- The decoding
 
 // The module has output n, from 0.
+#[tactic(auto, unfolding(rules::specs::Switches::present))]
 fn present(m: Model, n: u16) -> bool
     ensures { result ≡ switches.present m n }
 {
@@ -277,6 +293,7 @@ fn present(m: Model, n: u16) -> bool
 }
 
 // Output n, from 1, is missing, or its block is all zero.
+#[tactic(auto, unfolding(rules::specs::LimitWords::unread))]
 pub fn unread(m: Model, file: &[u16], n: u16) -> bool
     ensures { result ≡ limit.unread m file.now n }
 {
@@ -297,6 +314,7 @@ fn advance_of(w: u16) -> Advance
 }
 
 // The type of a block's switch, with what figure 5.9 puts after the pair.
+#[tactic(auto, unfolding(rules::specs::LimitWords::action_of))]
 fn action_of(b: [u16; 19]) -> Action
     ensures { result ≡ limit.action_of b }
 {
@@ -328,6 +346,7 @@ fn action_of(b: [u16; 19]) -> Action
 }
 
 // The sixteen setpoints of a normal switch; the first two of the others.
+#[tactic(auto, unfolding(rules::specs::Words::table))]
 fn setpoints_of(b: [u16; 19]) -> [u16; 16]
     ensures { result ≡ table 16 0 (limit.setpoint_of b) }
 {
@@ -341,6 +360,7 @@ fn setpoints_of(b: [u16; 19]) -> [u16; 16]
 }
 
 // The program that a block gives.
+#[tactic(auto, unfolding(rules::specs::LimitWords::limit_of_block))]
 fn limit_of_block(b: [u16; 19]) -> Limit
     ensures { result ≡ limit.limit_of_block b }
 {
@@ -355,6 +375,7 @@ fn limit_of_block(b: [u16; 19]) -> Limit
 }
 
 // The program of output n, from 1, that a file gives.
+#[tactic(auto, unfolding(rules::specs::LimitWords::limit_from))]
 pub fn limit_from(m: Model, file: &[u16], n: u16) -> Limit
     ensures { result ≡ limit.limit_from m file.now n }
 {

@@ -1,4 +1,6 @@
 // The limit words of M1: words 630 and 631, and the programming that acceptance brings.
+#![tactic(auto)]
+
 ghost use Rattle.std.specs.Prelude.{◌≡◌, not, eqb};
 ghost use Rattle.rules.specs.Words.{table, lowest_of};
 ghost use Rattle.rules.specs.LimitWords as limit;
@@ -10,6 +12,7 @@ use word::Layout;
 pub const COMMAND: usize = 0;
 
 // A reserved bit of the command word, or a nonzero reserved word.
+#[tactic(auto, unfolding(rules::specs::LimitWords::limit_reserved))]
 fn limit_reserved(file: &[u16]) -> bool
     ensures { result ≡ limit.limit_reserved file.now }
 {
@@ -23,6 +26,7 @@ fn limit_reserved(file: &[u16]) -> bool
 }
 
 // Output n, from 1, has no group in Group Mode.
+#[tactic(auto, unfolding(rules::specs::LimitWords::unassigned))]
 fn unassigned(p: Programming, n: u16) -> bool
     ensures { result ≡ limit.unassigned p n }
 {
@@ -39,6 +43,7 @@ fn unassigned(p: Programming, n: u16) -> bool
 }
 
 // Bits 0 to 5 of output n, from 1.
+#[tactic(auto, unfolding(rules::specs::LimitWords::limit_bits))]
 fn limit_bits(m: Model, p: Programming, file: &[u16], n: u16) -> u16
     ensures { result ≡ limit.limit_bits m p file.now n }
 {
@@ -53,6 +58,7 @@ fn limit_bits(m: Model, p: Programming, file: &[u16], n: u16) -> u16
 }
 
 // The lowest of the 32 outputs that fails its checks, 0 if none does.
+#[tactic(auto, unfolding(rules::specs::Words::lowest_of))]
 fn lowest_failing(m: Model, p: Programming, file: &[u16]) -> u16
     ensures { result ≡ lowest_of 32 1 (λ n. not (eqb (limit.limit_bits m p file.now n) 0)) }
 {
@@ -69,6 +75,7 @@ fn lowest_failing(m: Model, p: Programming, file: &[u16]) -> u16
 }
 
 // Word 631: the lowest failing output; 0 where a reserved bit or word is bad.
+#[tactic(auto, unfolding(rules::specs::LimitWords::failing_limit))]
 pub fn failing_limit(m: Model, p: Programming, file: &[u16]) -> u16
     ensures { result ≡ limit.failing_limit m p file.now }
 {
@@ -79,6 +86,7 @@ pub fn failing_limit(m: Model, p: Programming, file: &[u16]) -> u16
 }
 
 // Word 630: the lowest failing output's bits, or bit 15 alone.
+#[tactic(auto, unfolding(rules::specs::LimitWords::limit_errors))]
 pub fn limit_errors(m: Model, p: Programming, file: &[u16]) -> u16
     ensures { result ≡ limit.limit_errors m p file.now }
 {
@@ -93,6 +101,7 @@ pub fn limit_errors(m: Model, p: Programming, file: &[u16]) -> u16
 }
 
 // The programs of the 32 outputs.
+#[tactic(auto, unfolding(rules::specs::Words::table))]
 pub fn limits_from(m: Model, file: &[u16]) -> [Limit; 32]
     ensures { result ≡ table 32 1 (limit.limit_from m file.now) }
 {
@@ -107,6 +116,7 @@ pub fn limits_from(m: Model, file: &[u16]) -> [Limit; 32]
 }
 
 // The programming with these programs.
+#[tactic(auto, unfolding(rules::specs::LimitWords::with_limits))]
 pub fn with_limits(p: Programming, limits: [Limit; 32]) -> Programming
     ensures { result ≡ limit.with_limits p limits }
 {

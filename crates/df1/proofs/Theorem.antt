@@ -1,6 +1,6 @@
 -- What 02 says of frames, of the definitions that the contracts cite: data read back, an accepted frame is the writer's, a frame has 6 to 493 bytes, and each refusal comes exactly where it is listed.
 -- Assumes nothing.
-use Rattle.std.proofs.Common.{◌≡◌, ℕ, ◌+◌, ◌<◌, ◌≤◌, Bool, true, false, cond, ltb, leb, List, [], ◌∷◌, ◌++◌, length, take, drop, replicate, sym, refl, ap, ◌∙◌, arith, ltb-true, lt-ltb, le-leb, leb-false, leb-true}
+use Rattle.std.proofs.Common.{◌≡◌, ℕ, ◌<◌, ◌≤◌, Bool, true, false, cond, ltb, leb, List, [], ◌∷◌, ◌++◌, length, take, drop, replicate, sym, refl, ap, ◌∙◌, arith, ltb-true, lt-ltb, le-leb, leb-false, leb-true}
 use mathlib.Core.Bool.{false≢true}
 use borrow.Author.Tests.{lt-leb}
 use lib.Seq.{take-append_seam}

@@ -1,4 +1,6 @@
 // DF1 full duplex, framing only: one frame written from data, and the data read from one frame.
+#![tactic(auto)]
+
 mod reading;
 mod writing;
 
@@ -48,6 +50,7 @@ struct Scan {
 }
 
 // 0 where a call was not refused, else the refusal's number.
+#[tactic(auto, unfolding(crate::specs::Frame::outcome_number, crate::specs::Frame::number_of))]
 pub fn number_of(o: Outcome) -> u16
     ensures { result ≡ frame.outcome_number o }
 {
@@ -71,6 +74,7 @@ fn is_allowed(n: usize) -> bool
     n <= MOST_DATA
 }
 
+#[tactic(auto, unfolding(crate::specs::Frame::answer_of))]
 fn refused(why: Refusal) -> Answer
     ensures { result ≡ frame.answer_of (Outcome.Refused why) 0 }
 {
@@ -81,6 +85,7 @@ fn refused(why: Refusal) -> Answer
 }
 
 // So many bytes are put into a buffer with so much room, or none.
+#[tactic(auto, unfolding(crate::specs::Frame::answer_of, crate::specs::Frame::fit_outcome))]
 fn fitting(n: usize, room: usize) -> Answer
     ensures { result ≡ frame.answer_of (frame.fit_outcome n room) n }
 {
@@ -94,6 +99,7 @@ fn fitting(n: usize, room: usize) -> Answer
 }
 
 // The two's complement of a sum.
+#[tactic(auto, unfolding(crate::specs::Frame::complement))]
 fn complement(sum: u8) -> u8
     ensures { result ≡ frame.complement sum }
 {

@@ -7,6 +7,7 @@ ghost use Rattle.df1.specs.Parts.{framed, scan_of, found_length};
 use crate::{Answer, DLE, ETX, Refusal, STX, Scan, complement, fitting, is_allowed, refused};
 
 // The input begins with DLE STX, and DLE ETX stand before its last byte.
+#[tactic(auto, unfolding(crate::specs::Parts::framed))]
 fn is_framed(input: &[u8]) -> bool
     ensures { result ≡ framed input.now }
 {
@@ -27,6 +28,7 @@ fn is_framed(input: &[u8]) -> bool
 }
 
 // The data between DLE STX and DLE ETX: their number and sum, a doubled DLE counted once. A DLE that is not doubled leaves none.
+#[tactic(auto, unfolding(crate::specs::Frame::sum_of, crate::specs::Parts::scan_of, crate::specs::Parts::paired, crate::specs::Frame::undoubled))]
 fn scan(body: &[u8]) -> Scan
     ensures { result ≡ scan_of body.now }
 {
@@ -75,6 +77,7 @@ fn data_length(input: &[u8]) -> usize
 }
 
 // The data of a body at the buffer's start, cut at its end; the second of two DLEs is passed over.
+#[tactic(auto, unfolding(crate::specs::Frame::undoubled))]
 fn put_data(out: &mut [u8], body: &[u8])
     ensures { out.new ≡ sets out.old 0 (frame.undoubled body.now) }
 {

@@ -7,6 +7,7 @@ ghost use Rattle.df1.specs.Parts.{dle_count, Written};
 use crate::{Answer, DLE, ETX, Refusal, STX, complement, fitting, is_allowed, refused};
 
 // How many of the bytes are a DLE.
+#[tactic(auto, unfolding(crate::specs::Parts::dle_count))]
 fn dle_count(bytes: &[u8]) -> usize
     ensures { result ≡ dle_count bytes.now }
 {

@@ -1,23 +1,24 @@
 // frame: DF1 frames for the laptop. `frame write` takes data on standard input and writes their frame to standard output, `frame read` takes a frame and writes its data.
+#![tactic(auto)]
+
 ghost use Rattle.std.specs.Prelude.{◌≡◌};
-ghost use Rattle.io.specs.Counts.{IsPrefixLen};
+ghost use Rattle.streams.specs.Counts.{IsPrefixLen};
 
 use df1::{Answer, LONGEST_FRAME, Outcome};
-use libc::{STDERR_FILENO, STDIN_FILENO, STDOUT_FILENO};
+use std::env::{Env, FillError};
+use streams::{read_full, write_all};
 
-fn usage() {
-    io::write_all(STDERR_FILENO, b"usage: frame write | frame read\n");
+fn usage(rt: &impl Eprint) {
+    let _ = eprintln!(rt; "usage: frame write | frame read");
 }
 
 // The line `refused n` for a call that was.
-fn tell(o: Outcome) {
+fn tell(rt: &impl Eprint, o: Outcome) {
     let number = df1::number_of(o);
     if number == 0 {
         return;
     }
-    io::write_all(STDERR_FILENO, b"refused ");
-    io::print_decimal(STDERR_FILENO, number as u64);
-    io::write_all(STDERR_FILENO, b"\n");
+    let _ = eprintln!(rt; "refused {number}");
 }
 
 fn made(writes: bool, bytes: &[u8], out: &mut [u8]) -> Answer
@@ -30,31 +31,39 @@ fn made(writes: bool, bytes: &[u8], out: &mut [u8]) -> Answer
 }
 
 // Standard input through the writer or the reader. One byte more than the longest frame tells a longer one, and longer data too.
-fn run(writes: bool) {
+fn run(rt: &(impl Input + Print + Eprint), writes: bool) {
     let mut input = [0u8; LONGEST_FRAME + 1];
     let mut out = [0u8; LONGEST_FRAME];
-    let got = io::read_full(STDIN_FILENO, &mut input);
+    let got = read_full(&mut rt.reader(), &mut input);
     let a = made(writes, &input[..got], &mut out);
     let n = a.length;
-    io::write_all(STDOUT_FILENO, &out[..n]);
+    write_all(rt, &out[..n]);
     let o = a.outcome;
-    tell(o);
+    tell(rt, o);
 }
 
-fn main() {
+// An argument has this number.
+fn is_given(rt: &impl Env, i: usize) -> bool {
+    let mut start = [0u8; 1];
+    match rt.arg(i, &mut start) {
+        Err(FillError::NotPresent) => false,
+        _ => true,
+    }
+}
+
+fn main(rt: HostRuntime) {
     let mut word = [0u8; 5];
-    let n = os::arg(1, &mut word);
-    if os::arg_count() != 2 {
-        usage();
+    let n = match rt.arg(1, &mut word) {
+        Ok(n) => n,
+        Err(_) => 0,
+    };
+    if is_given(&rt, 2) {
+        usage(&rt);
         return;
     }
-    if check::same(&word[..n], b"write") {
-        run(true);
-        return;
+    match &word[..n] {
+        b"write" => run(&rt, true),
+        b"read" => run(&rt, false),
+        _ => usage(&rt),
     }
-    if check::same(&word[..n], b"read") {
-        run(false);
-        return;
-    }
-    usage();
 }

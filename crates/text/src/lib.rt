@@ -1,6 +1,10 @@
 // A line of text, built by value: what the programs print.
+#![tactic(auto)]
 
 ghost use Rattle.std.specs.Prelude.{◌≡◌, ◌<◌};
+
+use std::io::Print;
+use streams::write_all;
 
 // The bytes of a line so far. A byte that no longer fits is dropped: a line that could be so long is `flushed` on the way.
 #[derive(Drop)]
@@ -98,24 +102,24 @@ pub fn put_flag(l: Line, b: bool) -> Line {
 }
 
 // Writes the line as it is.
-fn write(l: Line) {
+fn write<P: Print>(to: &P, l: Line) {
     let n = l.len;
     let b = l.bytes;
     if n <= 192 {
-        io::write_all(1, &b[..n]);
+        write_all(to, &b[..n]);
     }
 }
 
 // The line, with room for ten bytes more: what a nearly full one has is written.
-pub fn flushed(l: Line) -> Line {
+pub fn flushed<P: Print>(to: &P, l: Line) -> Line {
     if l.len <= 182 {
         return l;
     }
-    write(l);
+    write(to, l);
     empty()
 }
 
 // Writes the line, ended by a line feed.
-pub fn show(l: Line) {
-    write(put(l, 10));
+pub fn show<P: Print>(to: &P, l: Line) {
+    write(to, put(l, 10));
 }

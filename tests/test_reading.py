@@ -55,7 +55,7 @@ class Names(unittest.TestCase):
 
     def test_the_statements_name_theorems(self):
         names = quoted(section("The statements that matter"))
-        self.assertIn("every-output", names)
+        self.assertIn("every_output", names)
         code = "".join(all_of("crates/%s/src/*.rt" % crate) for crate in ["engine", "card", "trace"])
         theorems = named(section("The statements that matter"))
         self.assert_declared(theorems, all_of("crates/rules/proofs/*.antt") + code)

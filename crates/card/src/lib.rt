@@ -1,6 +1,8 @@
 // The card's own loop: the calls on a module that a host keeps where it sits, exported for C and Rust. include/chimneyrye.h is their header. The module
 // is lent as the engine has it; each call is a call by value on what lies there, and stores what that call gives back.
 
+#![tactic(auto)]
+
 mod calls;
 
 ghost use Rattle.std.specs.Prelude.{◌≡◌};
@@ -13,7 +15,7 @@ use rules::{Answer, Module, Sample};
 
 // What a byte read answers: 0 and the byte, or 13 and 0.
 #[repr(C)]
-#[derive(Drop)]
+#[derive(Clone, Copy)]
 pub struct Byte {
     pub number: u16,
     pub value: u8,

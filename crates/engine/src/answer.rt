@@ -14,6 +14,7 @@ fn forced(present: u16, off: u16, on: u16, rule: u16) -> u16
 }
 
 // The two words of outputs, where bit n of `rule` says whether output n is on before the forces.
+#[tactic(auto, unfolding(rules::specs::Switches::output_words))]
 pub fn output_words(m: Model, s: Sample, rule: u32) -> OutputWords
     ensures { result ≡ switches.output_words m s (words.bit rule) }
 {
@@ -44,6 +45,7 @@ fn tach_shown(value: u64) -> u16
 }
 
 // With SLCINT set, how many virtual outputs changed since the previous step, else 0.
+#[tactic(auto, unfolding(rules::specs::Switches::changed_count))]
 fn changed_count(u: Setup, before: u16, after: u16) -> u16
     ensures { result ≡ switches.changed_count u before after }
 {
@@ -54,6 +56,7 @@ fn changed_count(u: Setup, before: u16, after: u16) -> u16
 }
 
 // What a step answers; one division makes the tachometer and TachOv.
+#[tactic(auto, unfolding(rules::specs::Switches::answer_of, rules::specs::Motion::tach_shown, rules::specs::Motion::tach_overflow))]
 pub fn answer_of(u: Setup, refused: bool, w: Conditions, before: u16, o: OutputWords) -> Answer
     ensures { result ≡ switches.answer_of u refused w before o }
 {

@@ -8,6 +8,7 @@ use rules::variants::model_of;
 use rules::{Conditions, Configuration, MachinePosition, Sample, Setup, Speed};
 
 // The speed after a step.
+#[tactic(auto, unfolding(rules::specs::Card::speed_now))]
 pub fn speed_now(u: Setup, x: Speed, s: Sample) -> Speed
     ensures { result ≡ card.speed_now u x s }
 {
@@ -15,6 +16,7 @@ pub fn speed_now(u: Setup, x: Speed, s: Sample) -> Speed
 }
 
 // The setup and the inputs beside what the step worked out.
+#[tactic(auto, unfolding(rules::specs::Motion::real_inputs))]
 fn conditions_with(
     g: Configuration,
     s: Sample,
@@ -43,6 +45,7 @@ fn conditions_with(
 }
 
 // Of a step that is not answered 11, where the speed was `before` and is `after`.
+#[tactic(auto, unfolding(rules::specs::Motion::conditions, rules::specs::Motion::machine_at))]
 pub fn conditions_of(g: Configuration, s: Sample, before: Speed, after: Speed) -> Conditions
     ensures { result ≡ motion.conditions g s after.c after.rpm (card.updates (motion.window_steps g.programming.setup.fast) before.long) }
 {
@@ -55,6 +58,7 @@ pub fn conditions_of(g: Configuration, s: Sample, before: Speed, after: Speed) -
 }
 
 // Of one that is answered 11: the last Machine Position, no speed, the detectors off.
+#[tactic(auto, unfolding(rules::specs::Motion::fault_conditions))]
 pub fn fault_conditions(g: Configuration, s: Sample, last: MachinePosition) -> Conditions
     ensures { result ≡ motion.fault_conditions g s last }
 {

@@ -8,14 +8,14 @@ use rules::variants::{mode_of, type_of};
 use rules::{Conditions, Event, Group, GroupPosition, GroupState};
 
 // A group after a step, the Group Position that the step leaves, and whether the group is open.
-#[derive(Drop)]
+#[derive(Clone, Copy)]
 struct GroupAfter {
     pub state: GroupState,
     pub position: GroupPosition,
     pub isopen: bool,
 }
 
-#[derive(Drop)]
+#[derive(Clone, Copy)]
 pub struct GroupsAfter {
     pub states: [GroupState; 6],
     pub positions: [GroupPosition; 6],
@@ -23,6 +23,7 @@ pub struct GroupsAfter {
 }
 
 // What group n, from 0, meets in a step.
+#[tactic(auto, unfolding(rules::specs::Groups::group_event))]
 fn event(w: Conditions, g: Group, n: u16) -> Event
     ensures { result ≡ groups.group_event w g n }
 {
@@ -47,6 +48,7 @@ fn left_position(used: bool, p: GroupPosition) -> GroupPosition
 }
 
 // A group's step, worked out once for its state, its position and its openness.
+#[tactic(auto, unfolding(rules::specs::Card::group_now, rules::specs::Card::left_position, rules::specs::Card::open_now))]
 fn group_after(w: Conditions, g: Group, x: GroupState, n: u16) -> GroupAfter
     ensures { (result.state ≡ card.group_now w g x n) × (result.position ≡ card.left_position w g x n) × (result.isopen ≡ card.open_now w g x n) }
 {
@@ -62,6 +64,7 @@ fn group_after(w: Conditions, g: Group, x: GroupState, n: u16) -> GroupAfter
 }
 
 // The six groups after a step.
+#[tactic(auto, unfolding(rules::specs::Card::groups_now, rules::specs::Card::positions_now, rules::specs::Card::openness_now))]
 pub fn groups_after(w: Conditions, gs: [Group; 6], xs: [GroupState; 6]) -> GroupsAfter
     ensures { (result.states ≡ card.groups_now w gs xs) × (result.positions ≡ card.positions_now w gs xs) × (result.isopen ≡ card.openness_now w gs xs) }
 {

@@ -7,6 +7,7 @@ ghost use Rattle.rules.specs.Card as card;
 use rules::{Answer, Bus, Kept, Shown};
 
 // A count that is not 0 sets the request; no step drops it or touches the mask.
+#[tactic(auto, unfolding(rules::specs::Bus::requested))]
 fn requested(b: Bus, count: u16) -> Bus
     ensures { result ≡ bus.requested b count }
 {
@@ -17,6 +18,7 @@ fn requested(b: Bus, count: u16) -> Bus
 }
 
 // After a step with this answer and these active real inputs.
+#[tactic(auto, unfolding(rules::specs::Card::kept_after, rules::specs::Bus::shown_by))]
 pub fn kept_after(x: Kept, a: Answer, inputs: u16) -> Kept
     ensures { result ≡ card.kept_after x a inputs }
 {

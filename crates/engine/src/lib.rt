@@ -1,4 +1,6 @@
 // The step: Machine Position and speed, the active inputs, the six groups, the 32 outputs with their forces, and what the card answers and keeps.
+#![tactic(auto)]
+
 mod answer;
 mod conditions;
 mod groups;
@@ -24,7 +26,7 @@ use rules::{
 };
 
 // What a step changes of the module, and what it answers.
-#[derive(Drop)]
+#[derive(Clone, Copy)]
 pub struct Change {
     pub state: State,
     pub raw: u16,
@@ -33,13 +35,14 @@ pub struct Change {
 }
 
 // What a step leaves that is not answered 11, and its 32 outputs before the forces.
-#[derive(Drop)]
+#[derive(Clone, Copy)]
 struct Since {
     pub since: SinceStart,
     pub on: u32,
 }
 
 // The groups and the outputs of a step that is not answered 11.
+#[tactic(auto, unfolding(rules::specs::Card::since_after, rules::specs::Card::rule_now))]
 fn since_after(p: Programming, w: Conditions, speed: Speed, x: SinceStart) -> Since
     ensures { (result.since ≡ card.since_after p w speed x) × (result.on ≡ words.packed 32 0 (card.rule_now p w x)) }
 {
@@ -65,6 +68,7 @@ fn since_after(p: Programming, w: Conditions, speed: Speed, x: SinceStart) -> Si
 }
 
 // A step that is not answered 11.
+#[tactic(auto, unfolding(rules::specs::Card::conditions_now, rules::specs::Motion::conditions, crate::specs::Parts::ruled_outputs, crate::specs::Parts::sound_answer, crate::specs::Parts::sound_change))]
 fn sound_step(m: Module, s: Sample) -> Change
     ensures { result ≡ sound_change m.configuration m.state s }
 {
@@ -93,6 +97,7 @@ fn sound_step(m: Module, s: Sample) -> Change
 
 // No timed switch runs. One that is at rest is not written again: as a loop of equal stores this would be unrolled, and the compiler would then copy
 // the whole array field by field in every step.
+#[tactic(auto, unfolding(rules::specs::Words::table))]
 fn timed_at_rest(xs: [TimedState; 32]) -> [TimedState; 32]
     ensures { result ≡ replicate 32 card.fresh_timed }
 {
@@ -110,6 +115,7 @@ fn timed_at_rest(xs: [TimedState; 32]) -> [TimedState; 32]
 
 // A step that is answered 11: it latches the fault, and is a module start. The fresh state is written here and not in a function of its own: the
 // compiler then does not copy the module in every step.
+#[tactic(auto, unfolding(crate::specs::Parts::dark_outputs, rules::specs::Motion::fault_conditions, rules::specs::Switches::answer_of, rules::specs::Card::module_start, crate::specs::Parts::fault_answer, crate::specs::Parts::fault_change))]
 fn fault_step(m: Module, s: Sample) -> Change
     ensures { result ≡ fault_change m.configuration m.state s }
 {
@@ -150,6 +156,7 @@ fn sound(fault: bool, raw: u16) -> bool
 }
 
 // What a step changes. Each way is called in one place: the compiler then puts both in here, and does not copy the module to call them.
+#[tactic(auto, unfolding(crate::specs::Parts::sound_change, crate::specs::Parts::sound_answer, crate::specs::Parts::ruled_outputs, rules::specs::Card::step_state, rules::specs::Card::since_now, rules::specs::Card::step_answer, rules::specs::Card::outputs_now, rules::specs::Calls::step_configuration, crate::specs::Parts::fault_change, crate::specs::Parts::fault_answer, crate::specs::Parts::dark_outputs))]
 pub fn change_of(m: Module, s: Sample) -> Change
     ensures { (result.state ≡ card.step_state m.configuration m.state s) × (result.answer ≡ card.step_answer m.configuration m.state s) × (cycle.with_fault (cycle.with_raw m.configuration result.raw) result.fault ≡ calls.step_configuration m.configuration s) }
 {
@@ -160,6 +167,7 @@ pub fn change_of(m: Module, s: Sample) -> Change
 }
 
 // One step of the card. What is not changed is the same in either case, so that it need not be copied.
+#[tactic(auto, unfolding(rules::specs::Card::step_call))]
 pub fn step(m: Module, s: Sample) -> StepResult
     ensures { result ≡ card.step_call m s }
 {

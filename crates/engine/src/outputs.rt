@@ -15,14 +15,14 @@ const UNPROGRAMMED: u16 = 0;
 const TIMED: u16 = 3;
 
 // An output before the forces, and its timed switch after a step.
-#[derive(Drop)]
+#[derive(Clone, Copy)]
 struct OutputAfter {
     pub on: bool,
     pub timed: TimedState,
 }
 
 // The 32 outputs before the forces, bits 0 to 15 real and 16 to 31 virtual, and their timed switches.
-#[derive(Drop)]
+#[derive(Clone, Copy)]
 pub struct OutputsAfter {
     pub on: u32,
     pub timed: [TimedState; 32],
@@ -62,6 +62,7 @@ fn group_open(isopen: [bool; 6], owner: u16) -> bool
 }
 
 // The position that an output's switch reads: of its group, or Machine Position in Independent Mode.
+#[tactic(auto, unfolding(rules::specs::Switches::switch_position))]
 fn switch_position(w: Conditions, position: GroupPosition) -> Position
     ensures { result ≡ switches.switch_position w position }
 {
@@ -73,6 +74,7 @@ fn switch_position(w: Conditions, position: GroupPosition) -> Position
 }
 
 // The group lets output n, from 0, on; in Independent Mode a real output's own real input does.
+#[tactic(auto, unfolding(rules::specs::Switches::admitted))]
 fn admitted(w: Conditions, isopen: bool, n: u16) -> bool
     ensures { result ≡ switches.admitted w isopen n }
 {
@@ -86,6 +88,7 @@ fn admitted(w: Conditions, isopen: bool, n: u16) -> bool
 }
 
 // What LS Enable has to say; in Independent Mode nothing.
+#[tactic(auto, unfolding(rules::specs::Switches::enable_holds))]
 fn enabled(w: Conditions, enable: bool, n: u16) -> bool
     ensures { result ≡ switches.enable_holds w enable n }
 {
@@ -114,6 +117,7 @@ fn detector_holds(w: Conditions, d: Anded) -> bool
 }
 
 // The group is open, and what is ANDed holds.
+#[tactic(auto, unfolding(rules::specs::Switches::passes))]
 fn passes(w: Conditions, l: Limit, isopen: bool, n: u16) -> bool
     ensures { result ≡ switches.passes w l isopen n }
 {
@@ -126,6 +130,7 @@ fn passes(w: Conditions, l: Limit, isopen: bool, n: u16) -> bool
 }
 
 // An output whose switch is not timed; its pairs are tested only where the rest of the rule lets it on.
+#[tactic(auto, unfolding(rules::specs::Switches::output_rule))]
 fn untimed_on(w: Conditions, l: Limit, position: GroupPosition, isopen: bool, n: u16) -> bool
     ensures { result ≡ switches.output_rule w l position isopen false n }
 {
@@ -137,6 +142,7 @@ fn untimed_on(w: Conditions, l: Limit, position: GroupPosition, isopen: bool, n:
 }
 
 // A timed switch after a step.
+#[tactic(auto, unfolding(rules::specs::Card::timed_now, rules::specs::Switches::timed_holds))]
 fn timed_now(w: Conditions, l: Limit, position: GroupPosition, x: TimedState) -> TimedState
     ensures { result ≡ card.timed_now w l position x }
 {
@@ -170,6 +176,7 @@ fn output_after(
 }
 
 // The 32 outputs before the forces, from the highest down. Of an unprogrammed one nothing is worked out.
+#[tactic(auto, unfolding(rules::specs::Words::packed, rules::specs::Switches::rule_at, rules::specs::Card::timed_of))]
 pub fn outputs_after(
     p: Programming,
     w: Conditions,

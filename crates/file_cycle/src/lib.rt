@@ -1,4 +1,6 @@
 // The programming cycle that takes a file, one for its three kinds: what each kind has of its own is a match on the kind.
+#![tactic(auto)]
+
 ghost use Rattle.std.specs.Prelude.{◌≡◌, cond, [], length};
 ghost use Rattle.rules.specs.Words.{stored_at};
 ghost use Rattle.rules.specs.Cycle as cycle;
@@ -26,6 +28,7 @@ const M1_STATUS: usize = 20;
 // ---- What each kind has of its own
 
 // The length of its file.
+#[tactic(auto, unfolding(rules::specs::FileCycle::file_length))]
 pub fn file_length(kind: FileCycle) -> usize
     ensures { result ≡ rule.file_length kind }
 {
@@ -37,6 +40,7 @@ pub fn file_length(kind: FileCycle) -> usize
 }
 
 // The refusal of another length.
+#[tactic(auto, unfolding(rules::specs::FileCycle::length_refusal))]
 fn length_refusal(kind: FileCycle) -> Refusal
     ensures { result ≡ rule.length_refusal kind }
 {
@@ -48,6 +52,7 @@ fn length_refusal(kind: FileCycle) -> Refusal
 }
 
 // The place of the command word.
+#[tactic(auto, unfolding(rules::specs::FileCycle::command_at))]
 pub fn command_at(kind: FileCycle) -> usize
     ensures { result ≡ rule.command_at kind }
 {
@@ -59,6 +64,7 @@ pub fn command_at(kind: FileCycle) -> usize
 }
 
 // The place of the first status word.
+#[tactic(auto, unfolding(rules::specs::FileCycle::status_at))]
 pub fn status_at(kind: FileCycle) -> usize
     ensures { result ≡ rule.status_at kind }
 {
@@ -70,6 +76,7 @@ pub fn status_at(kind: FileCycle) -> usize
 }
 
 // The refusal of bad data.
+#[tactic(auto, unfolding(rules::specs::FileCycle::data_refusal))]
 fn data_refusal(kind: FileCycle) -> Refusal
     ensures { result ≡ rule.data_refusal kind }
 {
@@ -81,6 +88,7 @@ fn data_refusal(kind: FileCycle) -> Refusal
 }
 
 // Refusal 5: an error stands, or a group cycle in Independent Mode.
+#[tactic(auto, unfolding(rules::specs::FileCycle::barred))]
 fn barred(kind: FileCycle, g: Configuration) -> bool
     ensures { result ≡ rule.barred kind g }
 {
@@ -95,6 +103,7 @@ fn barred(kind: FileCycle, g: Configuration) -> bool
 }
 
 // The check's word, 0 where the file passes.
+#[tactic(auto, unfolding(rules::specs::FileCycle::file_errors))]
 fn file_errors(kind: FileCycle, g: Configuration, file: &[u16]) -> u16
     ensures { result ≡ rule.file_errors kind g file.now }
 {
@@ -108,6 +117,7 @@ fn file_errors(kind: FileCycle, g: Configuration, file: &[u16]) -> u16
 }
 
 // The failing group or output that it is of.
+#[tactic(auto, unfolding(rules::specs::FileCycle::failing))]
 fn failing(kind: FileCycle, g: Configuration, file: &[u16]) -> u16
     ensures { result ≡ rule.failing kind g file.now }
 {
@@ -121,6 +131,7 @@ fn failing(kind: FileCycle, g: Configuration, file: &[u16]) -> u16
 }
 
 // The programming that acceptance brings.
+#[tactic(auto, unfolding(rules::specs::FileCycle::brought))]
 fn brought(kind: FileCycle, g: Configuration, file: &[u16]) -> Programming
     ensures { result ≡ rule.brought kind g file.now }
 {
@@ -136,6 +147,7 @@ fn brought(kind: FileCycle, g: Configuration, file: &[u16]) -> Programming
 }
 
 // A group start.
+#[tactic(auto, unfolding(rules::specs::Card::group_start))]
 fn group_start(x: SinceStart) -> SinceStart
     ensures { result ≡ card.group_start x }
 {
@@ -150,6 +162,7 @@ fn group_start(x: SinceStart) -> SinceStart
 }
 
 // An accepted limit cycle is a start for the timed switches.
+#[tactic(auto, unfolding(rules::specs::Card::limit_start))]
 fn limit_start(x: SinceStart) -> SinceStart
     ensures { result ≡ card.limit_start x }
 {
@@ -161,6 +174,7 @@ fn limit_start(x: SinceStart) -> SinceStart
 }
 
 // The start that an accepted cycle is.
+#[tactic(auto, unfolding(rules::specs::Card::start_of))]
 fn start_of(kind: FileCycle, x: SinceStart) -> SinceStart
     ensures { result ≡ card.start_of kind x }
 {
@@ -188,6 +202,7 @@ fn number_word(ignored: bool, number: u16) -> u16
 }
 
 // Words 100 to 109.
+#[tactic(auto, unfolding(rules::specs::FileCycle::status_words))]
 fn setup_status(g: Configuration, errors: u16) -> [u16; M0_STATUS]
     ensures { result ≡ rule.status_words FileCycle.SetupCycle g errors 0 [] }
 {
@@ -208,6 +223,7 @@ fn setup_status(g: Configuration, errors: u16) -> [u16; M0_STATUS]
 }
 
 // Words 110 to 119: the Group Positions from 112 on.
+#[tactic(auto, unfolding(rules::specs::FileCycle::status_words))]
 fn group_status(
     g: Configuration,
     errors: u16,
@@ -228,6 +244,7 @@ fn group_status(
 }
 
 // Words 630 to 649.
+#[tactic(auto, unfolding(rules::specs::FileCycle::status_words))]
 fn limit_status(g: Configuration, errors: u16, number: u16) -> [u16; M1_STATUS]
     ensures { result ≡ rule.status_words FileCycle.LimitCycle g errors number [] }
 {
@@ -238,6 +255,7 @@ fn limit_status(g: Configuration, errors: u16, number: u16) -> [u16; M1_STATUS]
 }
 
 // The status words rewritten in a file of the kind's length.
+#[tactic(auto, unfolding(rules::specs::FileCycle::file_length, rules::specs::FileCycle::status_at, rules::specs::FileCycle::status_words))]
 fn store_status(
     kind: FileCycle,
     g: Configuration,
@@ -275,6 +293,7 @@ fn command(kind: FileCycle, file: &[u16]) -> u16
 }
 
 // What an acting cycle does to a configuration, where its check found `errors`.
+#[tactic(auto, unfolding(rules::specs::FileCycle::file_acts))]
 fn file_acts(kind: FileCycle, clear: bool, errors: u16, g: Configuration, file: &[u16]) -> Decision
     ensures { errors ≡ rule.file_errors kind g file.now → result ≡ rule.file_acts kind file.now (cycle.underway (Cycle.OfFile kind) clear g) }
 {
@@ -310,6 +329,7 @@ fn act(kind: FileCycle, clear: bool, m: Module, file: &mut [u16]) -> CycleResult
 }
 
 // The cycle.
+#[tactic(auto, unfolding(rules::specs::Card::file_call, rules::specs::Card::file_left, rules::specs::FileCycle::file_cycle, rules::specs::FileCycle::file_after, rules::specs::Cycle::turned_away, rules::specs::Cycle::cycle, rules::specs::Cycle::idle_cycle))]
 pub fn file_cycle(kind: FileCycle, m: Module, file: &mut [u16]) -> CycleResult
     ensures { (result ≡ card.file_call kind m file.old) × (file.new ≡ card.file_left kind m file.old) }
 {

@@ -1,4 +1,6 @@
 // The nudge: one count up or down on the setpoints of one pair in force. `top` is the scale factor less one.
+#![tactic(auto)]
+
 ghost use Rattle.std.specs.Prelude.{◌≡◌, false, ◌&&◌, ◌+◌, ◌<◌};
 ghost use Rattle.rules.specs.Words.{bit};
 ghost use Rattle.rules.specs.Motion.{scale_factor};
@@ -51,6 +53,7 @@ fn pair_missing(s: Switch, k: u16) -> bool
 }
 
 // Refusal 9.
+#[tactic(auto, unfolding(rules::specs::Nudge::nudge_output_bad))]
 fn output_bad(p: Programming, w: u16) -> bool
     ensures { result ≡ nudge.nudge_output_bad p w }
 {
@@ -62,6 +65,7 @@ fn output_bad(p: Programming, w: u16) -> bool
 }
 
 // A nudge takes a setpoint out of 0 to SF − 1.
+#[tactic(auto, unfolding(rules::specs::Nudge::leaves_range))]
 fn leaves_range(top: u16, down: bool, x: u16) -> bool
     ensures { result ≡ nudge.leaves_range (top + 1) down x }
 {
@@ -79,6 +83,7 @@ fn chosen_leaves(top: u16, w: u16, n: u16, x: u16) -> bool
 }
 
 // The setpoint one count up or down where the word chooses it by its bit n; one that would leave the range stays.
+#[tactic(auto, unfolding(rules::specs::Nudge::nudged_to))]
 fn nudged(top: u16, w: u16, n: u16, x: u16) -> u16
     ensures { (bit w n && nudge.leaves_range (top + 1) (bit w nudge.down_bit) x) ≡ false → result ≡ nudge.nudged_if (bit w n) (bit w nudge.down_bit) x }
 {
@@ -111,6 +116,7 @@ fn fails(top: u16, s: Switch, on: u16, off: u16) -> bool
 }
 
 // The nudged pair is 0/0, out of range or fails the limit checks.
+#[tactic(auto, unfolding(rules::specs::Nudge::result_bad))]
 fn result_bad(top: u16, s: Switch, on: u16, off: u16) -> bool
     ensures { result ≡ nudge.result_bad (top + 1) s on off }
 {
@@ -118,6 +124,7 @@ fn result_bad(top: u16, s: Switch, on: u16, off: u16) -> bool
 }
 
 // Refusal 10, of the pair that the word names.
+#[tactic(auto, unfolding(rules::specs::Nudge::nudge_setpoint_bad))]
 fn setpoint_bad(top: u16, l: Limit, w: u16) -> bool
     ensures { result ≡ nudge.nudge_setpoint_bad (top + 1) l (nudge.nudge_pair w) w }
 {
@@ -142,6 +149,7 @@ fn setpoint_bad(top: u16, l: Limit, w: u16) -> bool
 }
 
 // The switch with the pair nudged, where refusal 10 does not come.
+#[tactic(auto, unfolding(rules::specs::Nudge::nudged_limit))]
 fn nudged_limit(top: u16, l: Limit, w: u16) -> Limit
     ensures { nudge.nudge_setpoint_bad (top + 1) l (nudge.nudge_pair w) w ≡ false → result ≡ nudge.nudged_limit l w }
 {
@@ -159,6 +167,7 @@ fn nudged_limit(top: u16, l: Limit, w: u16) -> Limit
 }
 
 // The programming with the pair nudged, where refusal 10 does not come.
+#[tactic(auto, unfolding(rules::specs::Nudge::nudged_programming, rules::specs::LimitWords::with_limits))]
 fn nudged_programming(p: Programming, w: u16) -> Programming
     ensures { nudge.nudge_setpoint_bad (scale_factor p.setup) (switches.limit_of p (nudge.nudge_output w)) (nudge.nudge_pair w) w ≡ false → result ≡ nudge.nudged_programming p w }
 {
@@ -171,6 +180,7 @@ fn nudged_programming(p: Programming, w: u16) -> Programming
 }
 
 // An acting nudge: bit 14, then 5, 9 and 10.
+#[tactic(auto, unfolding(rules::specs::Nudge::nudge_acts))]
 fn nudge_acts(w: u16, g: Configuration) -> Decision
     ensures { result ≡ nudge.nudge_acts w g }
 {
@@ -193,6 +203,7 @@ fn nudge_acts(w: u16, g: Configuration) -> Decision
 }
 
 // The nudge cycle.
+#[tactic(auto, unfolding(rules::specs::Card::nudge_call, rules::specs::Nudge::nudge_cycle, rules::specs::Cycle::cycle))]
 pub fn nudge_cycle(m: Module, w: u16) -> CycleResult
     ensures { result ≡ card.nudge_call m w }
 {

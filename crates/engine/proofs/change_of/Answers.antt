@@ -1,0 +1,40 @@
+-- `engine::change_of` meets its contract: a fault or a raw over 1023 is what is not sound. Assumes nothing.
+-- a change is that of 01's step
+use mathlib.Core.Bool.{true, false}
+use mathlib.Core.Path.{◌≡◌, sym, ◌∙◌}
+use Rattle.rules.specs.declared.Configuration.{Configuration}
+use Rattle.rules.specs.declared.State.{State}
+use Rattle.rules.specs.declared.Sample.{Sample}
+use Rattle.rules.specs.Cycle.{with_fault, with_raw}
+use Rattle.rules.specs.Calls.{sound, step_configuration}
+use Rattle.rules.specs.Card.{outputs_now, since_now, step_state, step_answer}
+use Rattle.engine.specs.declared.Change.{Change}
+use Rattle.engine.specs.Parts.{ruled_outputs, dark_outputs, sound_answer, sound_change, fault_answer, fault_change}
+use Rattle.engine.proofs.change_of.Goals as goal
+
+abbrev Steps : Configuration → State → Sample → Change → Type 0
+Steps g x s r =
+    (r.state ≡ step_state g x s) × (r.answer ≡ step_answer g x s) × (with_fault (with_raw g r.raw) r.fault ≡ step_configuration g s)
+
+sound-steps : (g : Configuration) (x : State) (s : Sample) → sound g s ≡ true → Steps g x s (sound_change g x s)
+unfolding sound_change sound_answer ruled_outputs step_state since_now step_answer outputs_now step_configuration
+sound-steps g x s e = (rw e, rw e, rw e)
+
+fault-steps : (g : Configuration) (x : State) (s : Sample) → sound g s ≡ false → Steps g x s (fault_change g x s)
+unfolding fault_change fault_answer dark_outputs step_state since_now step_answer outputs_now step_configuration
+fault-steps g x s e = (rw e, rw e, rw e)
+
+pub sound-requires : goal.sound-requires
+sound-requires c = tt
+
+pub sound_step-requires : goal.sound_step-requires
+sound_step-requires c = tt
+
+pub returns-then-sound : goal.returns-then-sound
+returns-then-sound c = rw c.sound_step.ensures (sound-steps _ _ _ (unfold sound in (sym c.sound.ensures ∙ c.if-sound.true)))
+
+pub fault_step-requires : goal.fault_step-requires
+fault_step-requires c = tt
+
+pub returns : goal.returns
+returns c = rw c.fault_step.ensures (fault-steps _ _ _ (unfold sound in (sym c.sound.ensures ∙ c.if-sound.false)))

@@ -1,0 +1,39 @@
+-- `engine::groups::groups_after` meets its contract: one group more of each table at each turn. Assumes nothing.
+use mathlib.Core.Bool.{false}
+use mathlib.Core.Path.{refl, ◌≡◌}
+use native.Mathlib.Omega.{arith}
+use lib.ListN.{replicate}
+use Rattle.rules.specs.Groups.{no_position}
+use Rattle.rules.specs.Card.{groups_now, positions_now, openness_now}
+use Rattle.engine.proofs.Lists.{up_none, up_more, up_all}
+use borrow.Author.Rules.{rules}
+use Rattle.engine.proofs.groups.groups_after.Invariants.{state_at, position_at, open_at}
+use Rattle.engine.proofs.groups.groups_after.Goals as goal
+
+pub loop-n-init : goal.loop-n-init
+loop-n-init c =
+    let a = c.args in (
+      omega arith,
+      up_none 6 (state_at a.w a.gs a.xs) a.xs (search rules),
+      up_none 6 (position_at a.w a.gs a.xs) (replicate 6 no_position) refl,
+      up_none 6 (open_at a.w a.gs a.xs) (replicate 6 false) refl,
+    )
+
+pub loop-n-preserved : goal.loop-n-preserved
+loop-n-preserved c =
+    let t = c in
+    let l = t.loop-n in
+    let a = t.args in
+    let r = c.group_after-a.ensures in (
+      omega arith,
+      up_more 6 l.n (state_at a.w a.gs a.xs) l.states _ (omega arith) l.invariant.1 r.0,
+      up_more 6 l.n (position_at a.w a.gs a.xs) l.positions _ (omega arith) l.invariant.2 r.1,
+      up_more 6 l.n (open_at a.w a.gs a.xs) l.isopen _ (omega arith) l.invariant.3 r.2,
+    )
+
+pub returns : goal.returns
+unfolding groups_now positions_now openness_now
+returns c =
+    let l = c.loop-n in
+    let e : l.n ≡ 6 = omega arith in
+    (up_all 6 l.n _ l.states e l.invariant.1, up_all 6 l.n _ l.positions e l.invariant.2, up_all 6 l.n _ l.isopen e l.invariant.3)

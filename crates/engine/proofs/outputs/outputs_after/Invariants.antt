@@ -1,0 +1,39 @@
+use Prim.Native.Nat.{ℕ, ◌≤◌, ◌<◌, ◌-◌, ◌*◌, ◌^◌}
+use mathlib.Core.Bool.{Bool, false}
+use mathlib.Core.List.{List}
+use mathlib.Core.Logic.{⊎_elim}
+use mathlib.Core.Path.{◌≡◌, refl, sym, ap, ◌∙◌}
+use native.Mathlib.Omega.{arith}
+use lib.Dec.{ltb}
+use lib.ListN.{get_or}
+use Rattle.rules.specs.declared.Conditions.{Conditions}
+use Rattle.rules.specs.declared.GroupPosition.{GroupPosition}
+use Rattle.rules.specs.declared.Limit.{Limit}
+use Rattle.rules.specs.declared.TimedState.{TimedState}
+use Rattle.rules.specs.Words.{packed}
+use Rattle.rules.specs.Groups.{no_position, of_group}
+use Rattle.rules.specs.Switches.{past_limits, output_rule, rule_at}
+use Rattle.rules.specs.Card.{fresh_timed, timed_now, timed_of}
+use Rattle.rules.proofs.Packing.{digit_le}
+use Rattle.word.proofs.Laws.{byte_digit, packed_below, packed_turn}
+use Rattle.engine.proofs.Lists.{FilledDown, down_none, down_more, down_all, length_mapped}
+use Rattle.engine.proofs.OutputLaws.{none_on, none_rests}
+use Rattle.engine.specs.declared.outputs.OutputAfter.{OutputAfter}
+use borrow.Author.Rules.{rules}
+use Rattle.engine.proofs.outputs.outputs_after.Given as goal
+
+-- of the 32 outputs the timed switch of the one at n, and that output before the forces
+abbrev pub timed_at : Conditions → List GroupPosition → List TimedState → List Limit → List ℕ → ℕ → TimedState
+timed_at w positions xs limits owners n =
+    timed_now w (get_or limits n past_limits) (of_group no_position positions (get_or owners n 0)) (get_or xs n fresh_timed)
+
+abbrev pub on_at : Conditions → List GroupPosition → List Bool → List TimedState → List Limit → List ℕ → ℕ → Bool
+on_at w positions isopen xs limits owners n =
+    output_rule w (get_or limits n past_limits) (of_group no_position positions (get_or owners n 0)) (of_group false isopen (get_or owners n 0)) (ltb 0 (timed_at w positions xs limits owners n).left) n
+
+abbrev pub invariant-loop-left : goal.invariant-loop-left
+invariant-loop-left l =
+    (l.left ≤ 32) × (l.on ≡ packed (32 - l.left) l.left (on_at l.w l.positions l.isopen l.xs l.limits l.owners)) × FilledDown 32 l.left (timed_at l.w l.positions l.xs l.limits l.owners) l.timed
+
+abbrev pub decreases-loop-left : goal.decreases-loop-left
+decreases-loop-left l = l.left

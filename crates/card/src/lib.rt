@@ -92,6 +92,7 @@ pub extern "C" fn chimneyrye_read_byte(m: &Module, offset: u16) -> Byte
 }
 
 // A byte of the rack bus written. Only the request and the mask are stored.
+#[tactic(auto, unfolding(rules::specs::Card::write_call))]
 #[unsafe(no_mangle)]
 pub extern "C" fn chimneyrye_write_byte(m: &mut Module, offset: u16, value: u8) -> u16
     ensures { (m.new ≡ (card.write_call m.old offset value).card) × (result ≡ outcome_number (card.write_call m.old offset value).outcome) }
@@ -102,6 +103,7 @@ pub extern "C" fn chimneyrye_write_byte(m: &mut Module, offset: u16, value: u8) 
 }
 
 // The line's level.
+#[tactic(auto, unfolding(rules::specs::Card::line_level))]
 #[unsafe(no_mangle)]
 pub extern "C" fn chimneyrye_line(m: &Module) -> bool
     ensures { result ≡ card.line_level m.now }

@@ -47,7 +47,7 @@ def snake(name):
     if name in APART:
         return APART[name]
     end = "_lem" if name in LEMMAS else ""
-    name = re.sub(r"(?<=[a-z0-9])(?=[A-Z])", "_", name)
+    name = re.sub(r"(?<=[a-z0-9])(?=[A-Z])|(?<=[A-Z])(?=[A-Z][a-z])", "_", name)
     return name.replace("-", "_").lower().replace("′", "'") + end
 
 

@@ -80,7 +80,7 @@ unfolding Quant.after_each Quant.no_later Quant.latest_saw Quant.held_under
 quantifiers = tt
 
 past1 : Unit {0}
-unfolding History.configuration_of History.is_module_start History.is_group_start History.is_limit_start History.since History.turned_in History.since_module_start History.movement_from History.movements History.window_total History.c_of History.big_cof History.rpm_at History.update_at History.rpm_in History.conditions_in History.begins_at History.takes_at History.level_at
+unfolding History.configuration_of History.is_module_start History.is_group_start History.is_limit_start History.since History.turned_in History.since_module_start History.movement_from History.movements History.window_total History.c_of History.big_c_of History.rpm_at History.update_at History.rpm_in History.conditions_in History.begins_at History.takes_at History.level_at
 past1 = tt
 
 past2 : Unit {0}

@@ -16,7 +16,7 @@ use Rattle.rules.specs.Motion.{scale_factor, turned, movement, window_steps, win
 use Rattle.rules.specs.Calls.{raw_most, default_setup, fresh_configuration, sound, step_configuration, configuration_after}
 use Rattle.rules.specs.Run.{run}
 use Rattle.rules.specs.Sums.{least_big_c, most_big_c, least_c, most_c, most_product, sample_at, steps_by, backward, forward}
-use Rattle.rules.specs.History.{configuration_of, setup_in_force, is_module_start, since, turned_in, since_module_start, movement_from, movements, total, window_total, c_of, big_cof, rpm_at}
+use Rattle.rules.specs.History.{configuration_of, setup_in_force, is_module_start, since, turned_in, since_module_start, movement_from, movements, total, window_total, c_of, big_c_of, rpm_at}
 use Rattle.rules.proofs.Laws.{minus, mod_below, add_differences, biased_natural}
 use Rattle.rules.proofs.Windows.{length_movements}
 use Rattle.rules.proofs.Agreement.{agrees}
@@ -128,12 +128,12 @@ module _ (model : Model) (by : ℕ) where
     unfolding c_of
     c_by b last = rw (qs_are n) (window_by by short_steps n b last)
 
-    big_c_by : 2520 < n → n % 2520 ≡ 0 → big_cof (setup_in_force model (steps_by by n)).fast (since_module_start model (steps_by by n)) ≡ sub_ℕ ((by + 512) % 1024 * 2520) 1290240
-    unfolding big_cof window_steps
+    big_c_by : 2520 < n → n % 2520 ≡ 0 → big_c_of (setup_in_force model (steps_by by n)).fast (since_module_start model (steps_by by n)) ≡ sub_ℕ ((by + 512) % 1024 * 2520) 1290240
+    unfolding big_c_of window_steps
     big_c_by b last = rw (slow, qs_are n) (window_by by 2520 n b last)
 
     -- the card's own c, and its rpm, which is of C
-    card_by : (c big_c : ℤ) → c_of (since_module_start model (steps_by by n)) ≡ c → big_cof (setup_in_force model (steps_by by n)).fast (since_module_start model (steps_by by n)) ≡ big_c
+    card_by : (c big_c : ℤ) → c_of (since_module_start model (steps_by by n)) ≡ c → big_c_of (setup_in_force model (steps_by by n)).fast (since_module_start model (steps_by by n)) ≡ big_c
         → (c_value (run model (steps_by by n)).state.since.speed.c ≡ c) × ((run model (steps_by by n)).state.since.speed.rpm ≡ rpm_of false big_c)
     unfolding rpm_at
     card_by c big_c e f =
@@ -143,10 +143,10 @@ module _ (model : Model) (by : ℕ) where
 -- ---- The two lists
 
 -- C is exactly −1,290,240 after the one, and 1,287,720 after the other
-pub backward_reaches : (model : Model) → big_cof (setup_in_force model backward).fast (since_module_start model backward) ≡ least_big_c
+pub backward_reaches : (model : Model) → big_c_of (setup_in_force model backward).fast (since_module_start model backward) ≡ least_big_c
 backward_reaches model = big_c_by model 512 _ (lit< tt) refl
 
-pub forward_reaches : (model : Model) → big_cof (setup_in_force model forward).fast (since_module_start model forward) ≡ most_big_c
+pub forward_reaches : (model : Model) → big_c_of (setup_in_force model forward).fast (since_module_start model forward) ≡ most_big_c
 forward_reaches model = big_c_by model 511 _ (lit< tt) refl
 
 -- and c −61,440 and 61,320

@@ -22,7 +22,7 @@ use Rattle.rules.specs.Calls.{Call, Step, FileCall, NudgeCall, ByteCall, raw_mos
 use Rattle.rules.specs.Card.{biased_movement, window_sum}
 use Rattle.rules.specs.Run.{run}
 use Rattle.rules.specs.Sums.{least_big_c, most_big_c, least_c, most_c, most_product}
-use Rattle.rules.specs.History.{configuration_of, setup_in_force, turned_in, since_module_start, up_to_step, movements, total, window_total, running_total, c_of, big_cof, update_at, conditions_in, last_raw}
+use Rattle.rules.specs.History.{configuration_of, setup_in_force, turned_in, since_module_start, up_to_step, movements, total, window_total, running_total, c_of, big_c_of, update_at, conditions_in, last_raw}
 use Rattle.rules.proofs.Laws.{minus, modulo_below, add_differences}
 use Rattle.rules.proofs.Past.{both, by}
 use Rattle.rules.proofs.Windows.{held_c, last_of, movement_is, biased_below, WindowLink, big_c_is, updates_is, long_some, long_small}
@@ -126,11 +126,11 @@ swing_between size a b z h j k =
 pub record SumsWithin (model : Model) (l : List Call) : Type 0 where
   pub c : Between least_c most_c (c_of (since_module_start model l))
   pub short : Between least_c most_c (running_total short_steps (movements (since_module_start model l)))
-  pub big_c : (fast : Bool) → Between least_big_c most_big_c (big_cof fast (since_module_start model l))
+  pub big_c : (fast : Bool) → Between least_big_c most_big_c (big_c_of fast (since_module_start model l))
   pub long : (fast : Bool) → Between least_big_c most_big_c (running_total (window_steps fast) (movements (since_module_start model l)))
 
 pub sums_within : (model : Model) (l : List Call) → SumsWithin model l
-unfolding c_of big_cof
+unfolding c_of big_c_of
 sums_within model l =
     let qs : List ℕ = since_module_start model l in
     record {
@@ -162,7 +162,7 @@ pub record SumsHeld (model : Model) (l : List Call) (x : Speed) : Type 0 where
   pub long : unbiased x.long.steps x.long.sum ≡ running_total (window_steps (setup_in_force model l).fast) (movements (since_module_start model l))
   pub big_c : (s : Sample) → update_at (setup_in_force model l).fast (up_to_step model l s) ≡ true
       → unbiased (window_steps (setup_in_force model l).fast) (window_sum x.long (biased_movement x.last (turned_in model l s)))
-      ≡ big_cof (setup_in_force model l).fast (up_to_step model l s)
+      ≡ big_c_of (setup_in_force model l).fast (up_to_step model l s)
 
 pub sums_held : (model : Model) (l : List Call) → SumsHeld model l (run model l).state.since.speed
 sums_held model l =

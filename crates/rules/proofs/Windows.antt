@@ -17,7 +17,7 @@ use Rattle.rules.specs.declared.Speed.{Speed}
 use Rattle.rules.specs.Words.{modulo, round_half_up}
 use Rattle.rules.specs.Motion.{movement, window_steps, window_time, short_steps, rpm_of, unbiased, c_value, biased_c}
 use Rattle.rules.specs.Card.{biased_movement, updates, window_sum, window_after, c_after, rpm_after, speed_after, fresh_window, fresh_speed}
-use Rattle.rules.specs.History.{movement_from, movements, total, window_total, c_of, big_cof, rpm_at, update_at}
+use Rattle.rules.specs.History.{movement_from, movements, total, window_total, c_of, big_c_of, rpm_at, update_at}
 use Rattle.rules.proofs.Laws.{modulo_below, minus, add_differences}
 
 -- what a number stands for is held by that number
@@ -194,7 +194,7 @@ module _ (u : Setup) (x : Speed) (qs : List ℕ) (k : SpeedLink u.fast x qs) (q 
   c_held = sym (held_c (c_after x m)) ∙ ap biased_c c_is
 
   pub rpm_is : rpm_after u.fast x m ≡ rpm_at u.fast (q ∷ qs)
-  unfolding rpm_after rpm_at big_cof movements
+  unfolding rpm_after rpm_at big_c_of movements
   rpm_is =
       go (updates (window_steps u.fast) x.long)
       ∙ ap (rpm_of u.fast) (value_is (window_steps u.fast) (long_some u.fast) (long_small u.fast) (movements qs) x.long k.long m b _ refl)
@@ -204,11 +204,11 @@ module _ (u : Setup) (x : Speed) (qs : List ℕ) (k : SpeedLink u.fast x qs) (q 
           → cond c (rpm_of u.fast (unbiased (window_steps u.fast) (window_sum x.long m))) x.rpm
           ≡ rpm_of u.fast (cond c (unbiased (window_steps u.fast) (window_sum x.long m)) (window_total (window_steps u.fast) (movements qs)))
       go true = refl
-      go false = unfold rpm_at big_cof in k.rpm
+      go false = unfold rpm_at big_c_of in k.rpm
 
   -- C is made in an update and not kept: the number that the step makes stands for it
-  pub big_c_is : updates (window_steps u.fast) x.long ≡ true → unbiased (window_steps u.fast) (window_sum x.long m) ≡ big_cof u.fast (q ∷ qs)
-  unfolding big_cof movements
+  pub big_c_is : updates (window_steps u.fast) x.long ≡ true → unbiased (window_steps u.fast) (window_sum x.long m) ≡ big_c_of u.fast (q ∷ qs)
+  unfolding big_c_of movements
   big_c_is e =
       rw (← m_is)
       (rw e at (value_is (window_steps u.fast) (long_some u.fast) (long_small u.fast) (movements qs) x.long k.long m b _ refl))
@@ -230,7 +230,7 @@ module _ (u : Setup) (x : Speed) (qs : List ℕ) (k : SpeedLink u.fast x qs) (q 
   }
 
 pub speed_fresh : (fast : Bool) → SpeedLink fast fresh_speed []
-unfolding last_of movements c_of big_cof rpm_at window_total
+unfolding last_of movements c_of big_c_of rpm_at window_total
 speed_fresh fast = record {
   last = refl;
   short = window_fresh short_steps;

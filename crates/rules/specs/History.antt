@@ -121,11 +121,11 @@ unfoldable pub c_of : List ℕ → ℤ
 c_of qs = window_total short_steps (movements qs)
 
 -- "At every 600th (TResp 1) or 2520th step, C is the sum over that window .., and rpm = |C| × 60000 / (1024 × W), rounded half up (0 earlier)."
-unfoldable pub big_cof : Bool → List ℕ → ℤ
-big_cof fast qs = window_total (window_steps fast) (movements qs)
+unfoldable pub big_c_of : Bool → List ℕ → ℤ
+big_c_of fast qs = window_total (window_steps fast) (movements qs)
 
 unfoldable pub rpm_at : Bool → List ℕ → ℕ
-rpm_at fast qs = rpm_of fast (big_cof fast qs)
+rpm_at fast qs = rpm_of fast (big_c_of fast qs)
 
 -- the sum of the movements since the window's beginning, that is after the last step whose number is a multiple of `size`
 unfoldable pub running_total : ℕ → List ℤ → ℤ

@@ -1,4 +1,6 @@
 // The program's arguments: a case and a number of steps or frames.
+use std::env::Env;
+use streams::arg;
 
 // A number, or what is none.
 #[derive(Drop)]
@@ -43,9 +45,9 @@ pub fn count_of(text: &[u8]) -> Count {
 }
 
 // The case of a name; 0 where the argument is no single byte.
-pub fn case_name() -> u8 {
+pub fn case_name<E: Env>(env: &E) -> u8 {
     let mut name = [0u8; 1];
-    let n = os::arg(1, &mut name);
+    let n = arg(env, 1, &mut name);
     if n == 1 {
         return name[0];
     }

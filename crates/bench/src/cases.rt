@@ -7,7 +7,7 @@ use rules::{FileCycle, Model, Module};
 const TRANSMIT: u16 = 32768;
 
 // `setup` has the setup words 0 to 11. The blocks of the groups and outputs are those of the full card or of the small one.
-#[derive(Drop)]
+#[derive(Clone, Copy)]
 pub struct Case {
     number: u16,
     setup: [u16; 12],

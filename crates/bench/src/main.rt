@@ -1,4 +1,6 @@
 // Steps and frames from memory and a checksum over their answers, to measure their time: docs/BENCH.md.
+#![tactic(auto)]
+
 mod arguments;
 mod cases;
 mod frames;
@@ -8,10 +10,11 @@ use crate::arguments::{Count, case_name, count_of};
 use crate::cases::{Case, module_of};
 use crate::frames::{frames_read, frames_written};
 use crate::steps::checksum;
+use streams::{arg, is_given};
 use text::{put, put_decimal, put_text, show};
 
-fn usage() {
-    io::write_all(2, b"usage: bench a N | bench b N | bench w N | bench r N\n");
+fn usage(rt: &impl Eprint) {
+    let _ = eprintln!(rt; "usage: bench a N | bench b N | bench w N | bench r N");
 }
 
 fn case_of(name: u8) -> Case {
@@ -31,29 +34,29 @@ fn sum_of(name: u8, n: u32) -> u32 {
 }
 
 // The number's text is printed as it was given.
-fn run(name: u8, text: &[u8]) {
+fn run(rt: &(impl Print + Eprint), name: u8, text: &[u8]) {
     let count = count_of(text);
     match count {
-        Count::Unread => usage(),
+        Count::Unread => usage(rt),
         Count::Number(n) => {
             let sum = sum_of(name, n);
             let l = put(put(text::empty(), name), b' ');
             let l = put(put_text(l, text), b' ');
-            show(put_decimal(l, sum));
+            show(rt, put_decimal(l, sum));
         }
     }
 }
 
-fn main() {
+fn main(rt: HostRuntime) {
     let mut text = [0u8; 128];
-    let n = os::arg(2, &mut text);
-    if os::arg_count() != 3 {
-        usage();
+    let n = arg(&rt, 2, &mut text);
+    if is_given(&rt, 3) {
+        usage(&rt);
         return;
     }
-    let name = case_name();
+    let name = case_name(&rt);
     match name {
-        b'a' | b'b' | b'w' | b'r' => run(name, &text[..n]),
-        _ => usage(),
+        b'a' | b'b' | b'w' | b'r' => run(&rt, name, &text[..n]),
+        _ => usage(&rt),
     }
 }

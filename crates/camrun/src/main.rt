@@ -1,8 +1,10 @@
 // camrun: the report of a trace, from standard input to standard output.
+#![tactic(auto)]
+
 ghost use Rattle.std.specs.Prelude.{◌≡◌, ◌+◌, length};
 ghost use Rattle.trace.specs.Sizes.{largest_trace, largest_report};
 
-use libc::{STDIN_FILENO, STDOUT_FILENO};
+use streams::{read_full, write_all};
 
 // Room for the largest whole trace and one byte more, which tells a longer input.
 fn trace_space() -> [u8; trace::LARGEST_TRACE + 1]
@@ -18,10 +20,10 @@ fn report_space() -> [u8; trace::LARGEST_REPORT]
     [0; trace::LARGEST_REPORT]
 }
 
-fn main() {
+fn main(rt: HostRuntime) {
     let mut input = trace_space();
     let mut out = report_space();
-    let got = io::read_full(STDIN_FILENO, &mut input);
+    let got = read_full(&mut rt.reader(), &mut input);
     let n = trace::report(&input[..got], &mut out);
-    io::write_all(STDOUT_FILENO, &out[..n]);
+    write_all(&rt, &out[..n]);
 }

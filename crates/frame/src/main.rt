@@ -5,8 +5,7 @@ ghost use Rattle.std.specs.Prelude.{◌≡◌};
 ghost use Rattle.streams.specs.Counts.{IsPrefixLen};
 
 use df1::{Answer, LONGEST_FRAME, Outcome};
-use std::env::{Env, FillError};
-use streams::{read_full, write_all};
+use streams::{arg, is_given, read_full, write_all};
 
 fn usage(rt: &impl Eprint) {
     let _ = eprintln!(rt; "usage: frame write | frame read");
@@ -42,21 +41,9 @@ fn run(rt: &(impl Input + Print + Eprint), writes: bool) {
     tell(rt, o);
 }
 
-// An argument has this number.
-fn is_given(rt: &impl Env, i: usize) -> bool {
-    let mut start = [0u8; 1];
-    match rt.arg(i, &mut start) {
-        Err(FillError::NotPresent) => false,
-        _ => true,
-    }
-}
-
 fn main(rt: HostRuntime) {
     let mut word = [0u8; 5];
-    let n = match rt.arg(1, &mut word) {
-        Ok(n) => n,
-        Err(_) => 0,
-    };
+    let n = arg(&rt, 1, &mut word);
     if is_given(&rt, 2) {
         usage(&rt);
         return;

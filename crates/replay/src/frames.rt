@@ -1,8 +1,8 @@
 // The frame calls: frames written and read over a lent buffer, each byte of it EEh before the call.
 ghost use Rattle.std.specs.Prelude.{◌≡◌, length};
-ghost use Rattle.io.specs.Counts.{IsPrefixLen};
 
 use df1::Answer;
+use std::io::Stdout;
 use text::{Line, flushed, put, put_byte, put_decimal, put_text, show};
 
 // Room for the largest lent buffer.
@@ -40,36 +40,36 @@ fn named(writes: bool) -> Line {
 }
 
 // The line so far, and all bytes of a buffer.
-fn show_bytes(l: Line, bytes: &[u8]) {
+fn show_bytes(to: Stdout, l: Line, bytes: &[u8]) {
     let mut n = l;
     let mut k: usize = 0;
     while k < bytes.len() {
-        n = put_byte(flushed(n), bytes[k]);
+        n = put_byte(flushed(&to, n), bytes[k]);
         k = k + 1;
     }
-    show(n);
+    show(&to, n);
 }
 
 // The call's outcome and length, then its buffer.
-fn frame_line(writes: bool, a: Answer, out: &[u8]) {
+fn frame_line(to: Stdout, writes: bool, a: Answer, out: &[u8]) {
     let o = a.outcome;
     let l = put(put_decimal(named(writes), df1::number_of(o) as u32), b' ');
     let l = put_decimal(l, (a.length % 65536) as u32);
     if out.len() == 0 {
-        show(l);
+        show(&to, l);
         return;
     }
-    show_bytes(put(l, b' '), out);
+    show_bytes(to, put(l, b' '), out);
 }
 
-fn answered(writes: bool, bytes: &[u8], out: &mut [u8]) {
+fn answered(to: Stdout, writes: bool, bytes: &[u8], out: &mut [u8]) {
     let a = made(writes, bytes, out);
-    frame_line(writes, a, &out[..]);
+    frame_line(to, writes, a, &out[..]);
 }
 
 // The call with a buffer of so many bytes, and its line.
-pub fn answer(writes: bool, bytes: &[u8], capacity: u16) {
+pub fn answer(to: Stdout, writes: bool, bytes: &[u8], capacity: u16) {
     let mut space = buffer_space();
     let end = capacity as usize;
-    answered(writes, bytes, &mut space[..end]);
+    answered(to, writes, bytes, &mut space[..end]);
 }

@@ -1,8 +1,10 @@
 // The calls of a list: little-endian words from standard input.
 ghost use Rattle.std.specs.Prelude.{◌≡◌, ◌<◌, ◌≤◌};
-ghost use Rattle.io.specs.Counts.{IsPrefixLen};
+ghost use Rattle.streams.specs.Counts.{IsPrefixLen};
 
 use rules::Sample;
+use std::io::Stdin;
+use streams::read_full;
 
 // What the input had: nothing, the part of a word or of a file, or the whole of it.
 #[derive(Drop)]
@@ -24,9 +26,9 @@ fn word(low: u8, high: u8) -> u16 {
 }
 
 // The next word.
-pub fn read_word() -> Input {
+pub fn read_word(mut from: Stdin) -> Input {
     let mut b = [0u8; 2];
-    let got = io::read_full(0, &mut b);
+    let got = read_full(&mut from, &mut b);
     if got == 0 {
         return Input::Nothing;
     }
@@ -48,13 +50,13 @@ fn unpack(file: &mut [u16; 651], b: &[u8; 1302]) {
 }
 
 // Reads n words, at most 651, to the file's start; false where the input ends before.
-fn read_part(file: &mut [u16; 651], n: u16) -> bool {
+fn read_part(mut from: Stdin, file: &mut [u16; 651], n: u16) -> bool {
     let mut b = [0u8; 1302];
     let want = 2 * n as usize;
     if 1302 < want {
         return false;
     }
-    let got = io::read_full(0, &mut b[..want]);
+    let got = read_full(&mut from, &mut b[..want]);
     if got < want {
         return false;
     }
@@ -63,24 +65,24 @@ fn read_part(file: &mut [u16; 651], n: u16) -> bool {
 }
 
 // Reads n words. A file of over 650 words is refused by its length alone, so the parts of one are laid over each other.
-fn read_words(file: &mut [u16; 651], n: u16) -> bool {
+fn read_words(from: Stdin, file: &mut [u16; 651], n: u16) -> bool {
     let mut left = n;
     while 651 < left {
-        if !read_part(file, 651) {
+        if !read_part(from, file, 651) {
             return false;
         }
         left = left - 651;
     }
-    read_part(file, left)
+    read_part(from, file, left)
 }
 
 // Reads a count and that many words; the answer is the count.
-pub fn read_file(file: &mut [u16; 651]) -> Input {
-    let count = read_word();
+pub fn read_file(from: Stdin, file: &mut [u16; 651]) -> Input {
+    let count = read_word(from);
     let Input::Word(n) = count else {
         return Input::Cut;
     };
-    if read_words(file, n) {
+    if read_words(from, file, n) {
         return count;
     }
     Input::Cut

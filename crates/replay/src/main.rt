@@ -1,4 +1,6 @@
 // Reads a list of calls from standard input and prints the whole answer of each: docs/REPLAY.md.
+#![tactic(auto)]
+
 mod answer;
 mod frames;
 mod input;
@@ -13,14 +15,18 @@ use crate::input::{Input, kept, read_file, read_word, sample_of};
 use file_cycle::file_cycle;
 use rules::numbers::is_accepted;
 use rules::{FileCycle, Model, Module, Sample};
+use std::io::{Stdin, Stdout};
+use streams::{read_full, write_all};
 use text::{put_decimal, put_text, show};
 
-// The module, where one was powered up, and whether the list goes on.
+// The module, where one was powered up, whether the list goes on, and what the list comes from and its answers go to.
 #[derive(Drop)]
 struct Replay {
     card: Module,
     powered: bool,
     more: bool,
+    from: Stdin,
+    to: Stdout,
 }
 
 fn ended(r: Replay) -> Replay {
@@ -31,18 +37,18 @@ fn ended(r: Replay) -> Replay {
 
 // The list is cut short or has an unknown opcode.
 fn bad(r: Replay) -> Replay {
-    io::write_all(1, b"bad\n");
+    write_all(&r.to, b"bad\n");
     ended(r)
 }
 
 // There is no module yet.
 fn none(r: Replay) -> Replay {
-    io::write_all(1, b"none\n");
+    write_all(&r.to, b"none\n");
     r
 }
 
 fn power_call(r: Replay) -> Replay {
-    let number = read_word();
+    let number = read_word(r.from);
     let Input::Word(n) = number else {
         return bad(r);
     };
@@ -50,24 +56,26 @@ fn power_call(r: Replay) -> Replay {
     let p = Module::power_up(card, n);
     let o = p.outcome;
     let after = p.card;
-    show(put_outcome(put_text(text::empty(), b"power "), o));
+    show(&r.to, put_outcome(put_text(text::empty(), b"power "), o));
     Replay {
         card: after,
         powered: r.powered | is_accepted(o),
         more: r.more,
+        from: r.from,
+        to: r.to,
     }
 }
 
 // The cycle on a file, and its line.
-fn answered(kind: FileCycle, m: Module, file: &mut [u16]) -> Module {
+fn answered(to: Stdout, kind: FileCycle, m: Module, file: &mut [u16]) -> Module {
     let p = file_cycle(kind, m, file);
-    show(file_line(kind, p, &file[..]));
+    show(&to, file_line(kind, p, &file[..]));
     p.card
 }
 
 fn file_call(r: Replay, kind: FileCycle) -> Replay {
     let mut file = [0u16; 651];
-    let length = read_file(&mut file);
+    let length = read_file(r.from, &mut file);
     let Input::Word(n) = length else {
         return bad(r);
     };
@@ -76,14 +84,14 @@ fn file_call(r: Replay, kind: FileCycle) -> Replay {
     }
     let end = kept(n, file);
     let card = r.card;
-    let after = answered(kind, card, &mut file[..end]);
+    let after = answered(r.to, kind, card, &mut file[..end]);
     let mut next = r;
     next.card = after;
     next
 }
 
 fn nudge_call(r: Replay) -> Replay {
-    let read = read_word();
+    let read = read_word(r.from);
     let Input::Word(w) = read else {
         return bad(r);
     };
@@ -92,7 +100,7 @@ fn nudge_call(r: Replay) -> Replay {
     }
     let card = r.card;
     let p = nudge::nudge_cycle(card, w);
-    show(cycle_line(b"nudge ", p));
+    show(&r.to, cycle_line(b"nudge ", p));
     let after = p.card;
     let mut next = r;
     next.card = after;
@@ -105,7 +113,7 @@ fn stepped(r: Replay, s: Sample) -> Replay {
     let d = engine::step(card, s);
     let answer = d.answer;
     let after = d.card;
-    show(step_line(answer, bus::line(after)));
+    show(&r.to, step_line(answer, bus::line(after)));
     let mut next = r;
     next.card = after;
     next
@@ -113,7 +121,8 @@ fn stepped(r: Replay, s: Sample) -> Replay {
 
 fn step_call(r: Replay) -> Replay {
     let mut b = [0u8; 18];
-    let got = io::read_full(0, &mut b);
+    let mut from = r.from;
+    let got = read_full(&mut from, &mut b);
     if got < 18 {
         return bad(r);
     }
@@ -124,7 +133,7 @@ fn step_call(r: Replay) -> Replay {
 }
 
 fn read_call(r: Replay) -> Replay {
-    let read = read_word();
+    let read = read_word(r.from);
     let Input::Word(offset) = read else {
         return bad(r);
     };
@@ -132,7 +141,7 @@ fn read_call(r: Replay) -> Replay {
         return none(r);
     }
     let card = r.card;
-    show(read_line(bus::read_byte(card, offset)));
+    show(&r.to, read_line(bus::read_byte(card, offset)));
     r
 }
 
@@ -142,18 +151,18 @@ fn written(r: Replay, offset: u16, value: u16) -> Replay {
     let p = bus::write_byte(card, offset, (value % 256) as u8);
     let o = p.outcome;
     let after = p.card;
-    show(write_line(o, bus::line(after)));
+    show(&r.to, write_line(o, bus::line(after)));
     let mut next = r;
     next.card = after;
     next
 }
 
 fn write_call(r: Replay) -> Replay {
-    let place = read_word();
+    let place = read_word(r.from);
     let Input::Word(offset) = place else {
         return bad(r);
     };
-    let read = read_word();
+    let read = read_word(r.from);
     let Input::Word(value) = read else {
         return bad(r);
     };
@@ -164,37 +173,37 @@ fn write_call(r: Replay) -> Replay {
 }
 
 // The block reader's line.
-fn block_line<'a>(m0: &'a [u16], m1: &'a [u16], group: bool, n: u16) {
+fn block_line<'a>(to: Stdout, m0: &'a [u16], m1: &'a [u16], group: bool, n: u16) {
     let mut why: u16 = 0;
     let part = reader::read_block(m0, m1, group, n, &mut why);
     let l = put_decimal(put_text(text::empty(), b"block "), why as u32);
-    show(put_words(l, part, 0, part.len()));
+    show(&to, put_words(l, part, 0, part.len()));
 }
 
 // Both files, and the block of one of them.
 fn block_of(r: Replay, group: bool, n: u16) -> Replay {
     let mut m0 = [0u16; 651];
     let mut m1 = [0u16; 651];
-    let length0 = read_file(&mut m0);
+    let length0 = read_file(r.from, &mut m0);
     let Input::Word(n0) = length0 else {
         return bad(r);
     };
-    let length1 = read_file(&mut m1);
+    let length1 = read_file(r.from, &mut m1);
     let Input::Word(n1) = length1 else {
         return bad(r);
     };
     let end0 = kept(n0, m0);
     let end1 = kept(n1, m1);
-    block_line(&m0[..end0], &m1[..end1], group, n);
+    block_line(r.to, &m0[..end0], &m1[..end1], group, n);
     r
 }
 
 fn block_call(r: Replay) -> Replay {
-    let read = read_word();
+    let read = read_word(r.from);
     let Input::Word(which) = read else {
         return bad(r);
     };
-    let number = read_word();
+    let number = read_word(r.from);
     let Input::Word(n) = number else {
         return bad(r);
     };
@@ -203,18 +212,18 @@ fn block_call(r: Replay) -> Replay {
 
 // A frame written or read: the buffer's size, then the bytes. Data or a frame that the room has not whole is refused by the part that it has.
 fn frame_call(r: Replay, writes: bool) -> Replay {
-    let size = read_word();
+    let size = read_word(r.from);
     let Input::Word(capacity) = size else {
         return bad(r);
     };
     let mut words = [0u16; 651];
-    let length = read_file(&mut words);
+    let length = read_file(r.from, &mut words);
     let Input::Word(n) = length else {
         return bad(r);
     };
     let end = kept(n, words);
     let bytes = low_bytes(&words);
-    answer(writes, &bytes[..end], capacity);
+    answer(r.to, writes, &bytes[..end], capacity);
     r
 }
 
@@ -237,7 +246,7 @@ fn call(r: Replay, opcode: u16) -> Replay {
 
 // One call of the list.
 fn one(r: Replay) -> Replay {
-    let opcode = read_word();
+    let opcode = read_word(r.from);
     match opcode {
         Input::Nothing => ended(r),
         Input::Cut => bad(r),
@@ -258,10 +267,12 @@ fn run(r: Replay) {
     }
 }
 
-fn main() {
+fn main(rt: HostRuntime) {
     run(Replay {
         card: Module::fresh(Model::NoModule),
         powered: false,
         more: true,
+        from: rt.stdin(),
+        to: rt.stdout(),
     });
 }

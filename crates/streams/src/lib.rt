@@ -1,9 +1,10 @@
-// What the programs read and write: a buffer filled from a reader, and bytes put out whole. A read or a write that fails ends there.
+// What the programs take and give: their arguments, a buffer filled from a reader, and bytes written whole. A read or a write that fails ends there.
 #![tactic(auto)]
 
 ghost use Rattle.std.specs.Prelude.{◌≡◌, ◌≤◌};
 ghost use Rattle.streams.specs.Counts.{IsPrefixLen};
 
+use std::env::{Env, FillError};
 use std::io::{Print, Read};
 
 // Reads until the buffer is full, the input ends or a read fails; the number of bytes at the buffer's start that were read.
@@ -27,4 +28,23 @@ pub fn read_full<R: Read>(input: &mut R, buf: &mut [u8]) -> usize
 // Writes all the bytes; false where a write failed, and then some of them may be written.
 pub fn write_all<P: Print>(to: &P, bytes: &[u8]) -> bool {
     to.write_all(bytes).is_ok()
+}
+
+// Puts an argument at the buffer's start; its length, 0 where it is missing or longer than the buffer. The program's own name is argument 0.
+pub fn arg<E: Env>(env: &E, i: usize, buf: &mut [u8]) -> usize
+    ensures { IsPrefixLen result buf.new }
+{
+    match env.arg(i, buf) {
+        Ok(n) => n,
+        Err(_) => 0,
+    }
+}
+
+// The program was started with this argument.
+pub fn is_given<E: Env>(env: &E, i: usize) -> bool {
+    let mut start = [0u8; 1];
+    match env.arg(i, &mut start) {
+        Err(FillError::NotPresent) => false,
+        _ => true,
+    }
 }

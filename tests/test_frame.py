@@ -1,6 +1,6 @@
 """Tests of the program frame, crates/frame/out/frame: by pipes, and over a pseudo-terminal pair as over a real line.
 
-    rt check frame && python3 -m unittest tests/test_frame.py
+    (cd crates/frame && rt run </dev/null) && python3 -m unittest tests/test_frame.py
 
 Expected bytes are worked out here from document 02, request 3/14.
 """
@@ -13,7 +13,7 @@ import tty
 import unittest
 
 ROOT = os.path.dirname(os.path.dirname(os.path.abspath(__file__)))
-FRAME = os.path.join(ROOT, "target", "bin", "frame")
+FRAME = os.path.join(ROOT, "crates", "frame", "out", "frame")
 LIMIT = 20
 
 # Every byte value, in strings of an allowed length, and the strings at which a line or a reader could go wrong.

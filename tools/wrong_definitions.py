@@ -36,7 +36,7 @@ def blocks(text):
 def copy_of_rules(folder, only=None):
     """A repository with crate `rules` alone, with all its proofs or only some."""
     os.makedirs(os.path.join(folder, "crates"))
-    shutil.copytree(os.path.join(ROOT, "crates", "rules"), os.path.join(folder, "crates", "rules"), ignore=shutil.ignore_patterns("must-fail"))
+    shutil.copytree(os.path.join(ROOT, "crates", "rules"), os.path.join(folder, "crates", "rules"), ignore=shutil.ignore_patterns("must-fail", "out"))
     with open(os.path.join(ROOT, "crates.txt"), encoding="utf-8") as file:
         line = next(line for line in file if re.match(r"rules\b", line))
     with open(os.path.join(folder, "crates.txt"), "w", encoding="utf-8") as file:
@@ -52,7 +52,7 @@ def copy_of_rules(folder, only=None):
 
 def check(folder):
     """Whether the crate is proved, and the text of the check."""
-    run = subprocess.run(["rt", "dev", "rules"], cwd=folder, env=dict(os.environ, RT_JOBS="1"), stdout=subprocess.PIPE, stderr=subprocess.STDOUT, text=True)
+    run = subprocess.run(["rt", "check", "--jobs", "1"], cwd=os.path.join(folder, "crates", "rules"), stdout=subprocess.PIPE, stderr=subprocess.STDOUT, text=True)
     return run.returncode == 0, run.stdout
 
 
@@ -60,7 +60,7 @@ def verdict(proved, output):
     """What a check says of a wrong definition: the places of proofs that refuse it, or None where it is accepted."""
     if proved:
         return None
-    places = re.findall(r"crates/rules/(\S+?):\d+:\d+: error: `([^`]+)`", output)
+    places = re.findall(r"^\./(\S+?):\d+:\d+: error: `([^`]+)`", output, re.M)
     functions = re.findall(r"^fn (\S+): (?!proved)", output, re.M)
     names = []
     for path, name in places:

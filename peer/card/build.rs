@@ -1,4 +1,4 @@
-//! Links the archive that `rt staticlib card` writes.
+//! Links the archive that `rt lib` writes in crates/card.
 
 use std::env;
 use std::path::PathBuf;
@@ -9,7 +9,7 @@ fn main() {
     let archive = folder.join("libcard.a");
     assert!(
         archive.is_file(),
-        "{} is missing: run `rt staticlib card` first",
+        "{} is missing: run `rt lib` in crates/card first",
         archive.display()
     );
     println!("cargo:rerun-if-changed={}", archive.display());

@@ -31,7 +31,6 @@ fn status_bits(g: Configuration, x: Shown) -> u16
     low + 64 * (middle + 64 * high)
 }
 
-#[tactic(auto, unfolding(rules::specs::Bus::input_table))]
 fn input_table(g: Configuration, x: Shown) -> [u16; 8]
     ensures { result ≡ bus.input_table g x }
 {
@@ -58,7 +57,6 @@ fn byte_of(w: u16, n: u16) -> u8
     (w / 256) as u8
 }
 
-#[tactic(auto, unfolding(rules::specs::Bus::table_byte))]
 fn table_byte(g: Configuration, x: Shown, n: u16) -> u8
     ensures { result ≡ bus.table_byte g x n }
 {
@@ -76,7 +74,6 @@ fn flag(b: bool) -> u8
 }
 
 // The byte at an offset of at most 17.
-#[tactic(auto, unfolding(rules::specs::Bus::byte_at))]
 fn byte_at(g: Configuration, x: Kept, n: u16) -> u8
     ensures { result ≡ bus.byte_at g x n }
 {
@@ -90,7 +87,6 @@ fn byte_at(g: Configuration, x: Kept, n: u16) -> u8
     flag(b.mask)
 }
 
-#[tactic(auto, unfolding(rules::specs::Card::read_call, rules::specs::Bus::byte_read))]
 pub fn read_byte(m: Module, offset: u16) -> ByteRead
     ensures { result ≡ card.read_call m offset }
 {

@@ -65,7 +65,6 @@ fn sum_far(top: u16, a: u16, b: u16) -> u16
 }
 
 // A pair (on, off) holds at p.
-#[tactic(auto, unfolding(rules::specs::Counts::holds))]
 pub fn holds(top: u16, on: u16, off: u16, p: u16) -> bool
     ensures { result ≡ counts.holds (top + 1) on off p }
 {
@@ -73,7 +72,6 @@ pub fn holds(top: u16, on: u16, off: u16, p: u16) -> bool
 }
 
 // The same for counts out of range.
-#[tactic(auto, unfolding(rules::specs::Counts::holds))]
 pub fn holds_far(top: u16, on: u16, off: u16, p: u16) -> bool
     ensures { result ≡ counts.holds (top + 1) on off p }
 {

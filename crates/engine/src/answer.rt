@@ -14,7 +14,6 @@ fn forced(present: u16, off: u16, on: u16, rule: u16) -> u16
 }
 
 // The two words of outputs, where bit n of `rule` says whether output n is on before the forces.
-#[tactic(auto, unfolding(rules::specs::Switches::output_words))]
 pub fn output_words(m: Model, s: Sample, rule: u32) -> OutputWords
     ensures { result ≡ switches.output_words m s (words.bit rule) }
 {

@@ -64,7 +64,6 @@ fn group_after(w: Conditions, g: Group, x: GroupState, n: u16) -> GroupAfter
 }
 
 // The six groups after a step.
-#[tactic(auto, unfolding(rules::specs::Card::groups_now, rules::specs::Card::positions_now, rules::specs::Card::openness_now))]
 pub fn groups_after(w: Conditions, gs: [Group; 6], xs: [GroupState; 6]) -> GroupsAfter
     ensures { (result.states ≡ card.groups_now w gs xs) × (result.positions ≡ card.positions_now w gs xs) × (result.isopen ≡ card.openness_now w gs xs) }
 {

@@ -42,7 +42,6 @@ struct Since {
 }
 
 // The groups and the outputs of a step that is not answered 11.
-#[tactic(auto, unfolding(rules::specs::Card::since_after, rules::specs::Card::rule_now))]
 fn since_after(p: Programming, w: Conditions, speed: Speed, x: SinceStart) -> Since
     ensures { (result.since ≡ card.since_after p w speed x) × (result.on ≡ words.packed 32 0 (card.rule_now p w x)) }
 {
@@ -68,7 +67,6 @@ fn since_after(p: Programming, w: Conditions, speed: Speed, x: SinceStart) -> Si
 }
 
 // A step that is not answered 11.
-#[tactic(auto, unfolding(rules::specs::Card::conditions_now, rules::specs::Motion::conditions, crate::specs::Parts::ruled_outputs, crate::specs::Parts::sound_answer, crate::specs::Parts::sound_change))]
 fn sound_step(m: Module, s: Sample) -> Change
     ensures { result ≡ sound_change m.configuration m.state s }
 {
@@ -97,7 +95,6 @@ fn sound_step(m: Module, s: Sample) -> Change
 
 // No timed switch runs. One that is at rest is not written again: as a loop of equal stores this would be unrolled, and the compiler would then copy
 // the whole array field by field in every step.
-#[tactic(auto, unfolding(rules::specs::Words::table))]
 fn timed_at_rest(xs: [TimedState; 32]) -> [TimedState; 32]
     ensures { result ≡ replicate 32 card.fresh_timed }
 {
@@ -115,7 +112,6 @@ fn timed_at_rest(xs: [TimedState; 32]) -> [TimedState; 32]
 
 // A step that is answered 11: it latches the fault, and is a module start. The fresh state is written here and not in a function of its own: the
 // compiler then does not copy the module in every step.
-#[tactic(auto, unfolding(crate::specs::Parts::dark_outputs, rules::specs::Motion::fault_conditions, rules::specs::Switches::answer_of, rules::specs::Card::module_start, crate::specs::Parts::fault_answer, crate::specs::Parts::fault_change))]
 fn fault_step(m: Module, s: Sample) -> Change
     ensures { result ≡ fault_change m.configuration m.state s }
 {
@@ -156,7 +152,6 @@ fn sound(fault: bool, raw: u16) -> bool
 }
 
 // What a step changes. Each way is called in one place: the compiler then puts both in here, and does not copy the module to call them.
-#[tactic(auto, unfolding(crate::specs::Parts::sound_change, crate::specs::Parts::sound_answer, crate::specs::Parts::ruled_outputs, rules::specs::Card::step_state, rules::specs::Card::since_now, rules::specs::Card::step_answer, rules::specs::Card::outputs_now, rules::specs::Calls::step_configuration, crate::specs::Parts::fault_change, crate::specs::Parts::fault_answer, crate::specs::Parts::dark_outputs))]
 pub fn change_of(m: Module, s: Sample) -> Change
     ensures { (result.state ≡ card.step_state m.configuration m.state s) × (result.answer ≡ card.step_answer m.configuration m.state s) × (cycle.with_fault (cycle.with_raw m.configuration result.raw) result.fault ≡ calls.step_configuration m.configuration s) }
 {
@@ -167,7 +162,6 @@ pub fn change_of(m: Module, s: Sample) -> Change
 }
 
 // One step of the card. What is not changed is the same in either case, so that it need not be copied.
-#[tactic(auto, unfolding(rules::specs::Card::step_call))]
 pub fn step(m: Module, s: Sample) -> StepResult
     ensures { result ≡ card.step_call m s }
 {

@@ -176,7 +176,6 @@ fn output_after(
 }
 
 // The 32 outputs before the forces, from the highest down. Of an unprogrammed one nothing is worked out.
-#[tactic(auto, unfolding(rules::specs::Words::packed, rules::specs::Switches::rule_at, rules::specs::Card::timed_of))]
 pub fn outputs_after(
     p: Programming,
     w: Conditions,

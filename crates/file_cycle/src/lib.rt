@@ -293,7 +293,6 @@ fn command(kind: FileCycle, file: &[u16]) -> u16
 }
 
 // What an acting cycle does to a configuration, where its check found `errors`.
-#[tactic(auto, unfolding(rules::specs::FileCycle::file_acts))]
 fn file_acts(kind: FileCycle, clear: bool, errors: u16, g: Configuration, file: &[u16]) -> Decision
     ensures { errors ≡ rule.file_errors kind g file.now → result ≡ rule.file_acts kind file.now (cycle.underway (Cycle.OfFile kind) clear g) }
 {
@@ -329,7 +328,6 @@ fn act(kind: FileCycle, clear: bool, m: Module, file: &mut [u16]) -> CycleResult
 }
 
 // The cycle.
-#[tactic(auto, unfolding(rules::specs::Card::file_call, rules::specs::Card::file_left, rules::specs::FileCycle::file_cycle, rules::specs::FileCycle::file_after, rules::specs::Cycle::turned_away, rules::specs::Cycle::cycle, rules::specs::Cycle::idle_cycle))]
 pub fn file_cycle(kind: FileCycle, m: Module, file: &mut [u16]) -> CycleResult
     ensures { (result ≡ card.file_call kind m file.old) × (file.new ≡ card.file_left kind m file.old) }
 {

@@ -151,7 +151,6 @@ pub fn rpm_of(fast: bool, counts: u32) -> u32
 }
 
 // c after a step, with what its window added.
-#[tactic(auto, unfolding(rules::specs::Card::c_after))]
 fn c_after(x: Speed, m: u16) -> u32
     ensures { result ≡ card.c_after x m }
 {
@@ -163,7 +162,6 @@ fn c_after(x: Speed, m: u16) -> u32
 }
 
 // rpm after a step.
-#[tactic(auto, unfolding(rules::specs::Card::rpm_after, rules::specs::Motion::rpm_of))]
 fn rpm_after(fast: bool, x: Speed, m: u16) -> u32
     ensures { result ≡ card.rpm_after fast x m }
 {
@@ -177,7 +175,6 @@ fn rpm_after(fast: bool, x: Speed, m: u16) -> u32
 }
 
 // The speed after a step at q.
-#[tactic(auto, unfolding(rules::specs::Card::speed_after))]
 pub fn speed_after(u: Setup, x: Speed, q: u16) -> Speed
     ensures { result ≡ card.speed_after u x q }
 {

@@ -124,7 +124,6 @@ fn result_bad(top: u16, s: Switch, on: u16, off: u16) -> bool
 }
 
 // Refusal 10, of the pair that the word names.
-#[tactic(auto, unfolding(rules::specs::Nudge::nudge_setpoint_bad))]
 fn setpoint_bad(top: u16, l: Limit, w: u16) -> bool
     ensures { result ≡ nudge.nudge_setpoint_bad (top + 1) l (nudge.nudge_pair w) w }
 {
@@ -149,7 +148,6 @@ fn setpoint_bad(top: u16, l: Limit, w: u16) -> bool
 }
 
 // The switch with the pair nudged, where refusal 10 does not come.
-#[tactic(auto, unfolding(rules::specs::Nudge::nudged_limit))]
 fn nudged_limit(top: u16, l: Limit, w: u16) -> Limit
     ensures { nudge.nudge_setpoint_bad (top + 1) l (nudge.nudge_pair w) w ≡ false → result ≡ nudge.nudged_limit l w }
 {
@@ -167,7 +165,6 @@ fn nudged_limit(top: u16, l: Limit, w: u16) -> Limit
 }
 
 // The programming with the pair nudged, where refusal 10 does not come.
-#[tactic(auto, unfolding(rules::specs::Nudge::nudged_programming, rules::specs::LimitWords::with_limits))]
 fn nudged_programming(p: Programming, w: u16) -> Programming
     ensures { nudge.nudge_setpoint_bad (scale_factor p.setup) (switches.limit_of p (nudge.nudge_output w)) (nudge.nudge_pair w) w ≡ false → result ≡ nudge.nudged_programming p w }
 {
@@ -180,7 +177,6 @@ fn nudged_programming(p: Programming, w: u16) -> Programming
 }
 
 // An acting nudge: bit 14, then 5, 9 and 10.
-#[tactic(auto, unfolding(rules::specs::Nudge::nudge_acts))]
 fn nudge_acts(w: u16, g: Configuration) -> Decision
     ensures { result ≡ nudge.nudge_acts w g }
 {
@@ -203,7 +199,6 @@ fn nudge_acts(w: u16, g: Configuration) -> Decision
 }
 
 // The nudge cycle.
-#[tactic(auto, unfolding(rules::specs::Card::nudge_call, rules::specs::Nudge::nudge_cycle, rules::specs::Cycle::cycle))]
 pub fn nudge_cycle(m: Module, w: u16) -> CycleResult
     ensures { result ≡ card.nudge_call m w }
 {

@@ -169,7 +169,6 @@ fn flag(file: &[u16], n: u16) -> bool
 }
 
 // The offset in force: the words', or with the Preset bit the one that gives the preset.
-#[tactic(auto, unfolding(rules::specs::SetupWords::setup_of))]
 fn offset_of(file: &[u16], raw: u16) -> u16
     ensures { result ≡ (setup.setup_of file.now raw).offset }
 {
@@ -225,7 +224,6 @@ fn scalars_of(file: &[u16]) -> Scalars
 }
 
 // The setup that a file's words give, where the last raw is `raw`.
-#[tactic(auto, unfolding(rules::specs::SetupWords::setup_of))]
 pub fn setup_of(file: &[u16], raw: u16) -> Setup
     ensures { result ≡ setup.setup_of file.now raw }
 {
@@ -257,7 +255,6 @@ fn differ(a: bool, b: bool) -> bool
 }
 
 // A changed scale factor or mode drops group and limit programs.
-#[tactic(auto, unfolding(rules::specs::SetupWords::with_setup))]
 pub fn with_setup(p: Programming, u: Setup) -> Programming
     ensures { result ≡ setup.with_setup p u }
 {

@@ -35,7 +35,7 @@ pub fn arg<E: Env>(env: &E, i: usize, buf: &mut [u8]) -> usize
     ensures { IsPrefixLen result buf.new }
 {
     match env.arg(i, buf) {
-        Ok(n) => n,
+        Ok(length) => length,
         Err(_) => 0,
     }
 }

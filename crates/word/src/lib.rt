@@ -44,7 +44,6 @@ fn reserved(layout: Layout) -> u16
 }
 
 // Some reserved bit of a word is set.
-#[tactic(auto, unfolding(rules::specs::Words::other_bit))]
 pub fn other_bit(w: u16, layout: Layout) -> bool
     ensures { result ≡ words.other_bit (named layout) w }
 {
@@ -52,7 +51,6 @@ pub fn other_bit(w: u16, layout: Layout) -> bool
 }
 
 // How many of sixteen outputs changed.
-#[tactic(auto, unfolding(rules::specs::Words::differing))]
 pub fn changes(old: u16, new: u16) -> u16
     ensures { result ≡ words.differing old new }
 {
@@ -87,7 +85,6 @@ pub fn any_word(file: &[u16], from: usize, to: usize) -> bool
 }
 
 // The words stored into a file from a place on; a file that ends before their end stays as it is.
-#[tactic(auto, unfolding(rules::specs::Words::stored_at))]
 pub fn store(file: &mut [u16], at: usize, words: &[u16])
     ensures { file.new ≡ cond (leb (at + length words.now) (length file.old)) (Rattle.rules.specs.Words.stored_at at words.now file.old) file.old }
 {

@@ -1,8 +1,6 @@
 -- `engine::outputs::outputs_after` meets its contract: one output more of the word and of the table at each turn, from the highest down. Assumes nothing.
 use Prim.Native.Nat.{ℕ, ◌≤◌, ◌<◌, ◌-◌, ◌*◌, ◌^◌}
 use mathlib.Core.Bool.{Bool, false}
-use mathlib.Core.List.{List}
-use mathlib.Core.Logic.{⊎_elim}
 use mathlib.Core.Path.{◌≡◌, refl, sym, ap, ◌∙◌}
 use native.Mathlib.Omega.{arith}
 use lib.Dec.{ltb}
@@ -17,7 +15,7 @@ use Rattle.rules.specs.Switches.{past_limits, output_rule, rule_at}
 use Rattle.rules.specs.Card.{fresh_timed, timed_now, timed_of}
 use Rattle.rules.proofs.Packing.{digit_le}
 use Rattle.word.proofs.Laws.{byte_digit, packed_below, packed_turn}
-use Rattle.engine.proofs.Lists.{FilledDown, down_none, down_more, down_all, length_mapped}
+use Rattle.engine.proofs.Lists.{down_none, down_more, down_all, length_mapped}
 use Rattle.engine.proofs.OutputLaws.{none_on, none_rests}
 use Rattle.engine.specs.declared.outputs.OutputAfter.{OutputAfter}
 use borrow.Author.Rules.{rules}
@@ -63,14 +61,14 @@ loop-left-preserved c =
     let program = get_or a.p.limits n past_limits in
     let owner = get_or a.p.owners n 0 in
     let r : (o.on ≡ on_at a.w a.positions a.isopen a.xs a.p.limits a.p.owners n) × (o.timed ≡ timed_at a.w a.positions a.xs a.p.limits a.p.owners n) =
-        elim c.if-l-ne-UNPROGRAMMED.branch [
-          then-l-ne-UNPROGRAMMED w ↦ (
-            rw (w.a-is, w.output_after-a.ensures.0, w.group_open-group.ensures, w.group_place-position.ensures),
-            rw (w.a-is, w.output_after-a.ensures.1, w.group_place-position.ensures),
-          )
-        | else-l-ne-UNPROGRAMMED w ↦
-            off a.w program (of_group no_position a.positions owner) (of_group false a.isopen owner) (get_or a.xs n fresh_timed) n o w.if-l-ne-UNPROGRAMMED.false w.a-is
-        ]
+    elim c.if-l-ne-UNPROGRAMMED.branch [
+      | then-l-ne-UNPROGRAMMED w ↦ (
+        rw (w.a-is, w.output_after-a.ensures.0, w.group_open-group.ensures, w.group_place-position.ensures),
+        rw (w.a-is, w.output_after-a.ensures.1, w.group_place-position.ensures),
+      )
+      | else-l-ne-UNPROGRAMMED w ↦
+          off a.w program (of_group no_position a.positions owner) (of_group false a.isopen owner) (get_or a.xs n fresh_timed) n o w.if-l-ne-UNPROGRAMMED.false w.a-is
+    ]
     in (
       omega arith,
       rw (byte_digit, r.0, l.invariant.1) (packed_turn 32 l.left (on_at a.w a.positions a.isopen a.xs a.p.limits a.p.owners) (omega arith) (omega arith)),

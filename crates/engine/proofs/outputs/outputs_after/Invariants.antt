@@ -1,9 +1,7 @@
-use Prim.Native.Nat.{ℕ, ◌≤◌, ◌<◌, ◌-◌, ◌*◌, ◌^◌}
+use Prim.Native.Nat.{ℕ, ◌≤◌, ◌-◌}
 use mathlib.Core.Bool.{Bool, false}
 use mathlib.Core.List.{List}
-use mathlib.Core.Logic.{⊎_elim}
-use mathlib.Core.Path.{◌≡◌, refl, sym, ap, ◌∙◌}
-use native.Mathlib.Omega.{arith}
+use mathlib.Core.Path.{◌≡◌}
 use lib.Dec.{ltb}
 use lib.ListN.{get_or}
 use Rattle.rules.specs.declared.Conditions.{Conditions}
@@ -12,14 +10,9 @@ use Rattle.rules.specs.declared.Limit.{Limit}
 use Rattle.rules.specs.declared.TimedState.{TimedState}
 use Rattle.rules.specs.Words.{packed}
 use Rattle.rules.specs.Groups.{no_position, of_group}
-use Rattle.rules.specs.Switches.{past_limits, output_rule, rule_at}
-use Rattle.rules.specs.Card.{fresh_timed, timed_now, timed_of}
-use Rattle.rules.proofs.Packing.{digit_le}
-use Rattle.word.proofs.Laws.{byte_digit, packed_below, packed_turn}
-use Rattle.engine.proofs.Lists.{FilledDown, down_none, down_more, down_all, length_mapped}
-use Rattle.engine.proofs.OutputLaws.{none_on, none_rests}
-use Rattle.engine.specs.declared.outputs.OutputAfter.{OutputAfter}
-use borrow.Author.Rules.{rules}
+use Rattle.rules.specs.Switches.{past_limits, output_rule}
+use Rattle.rules.specs.Card.{fresh_timed, timed_now}
+use Rattle.engine.proofs.Lists.{FilledDown}
 use Rattle.engine.proofs.outputs.outputs_after.Given as goal
 
 -- of the 32 outputs the timed switch of the one at n, and that output before the forces

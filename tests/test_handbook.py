@@ -117,10 +117,10 @@ def numbers(words):
 class Words(unittest.TestCase):
     def test_setup_command(self):
         text, rows = rules("SetupWords"), table("bit of word 0")
-        names = {"Preset": "presetBit", "CDir": "directionBit", "TResp": "responseBit", "SLCINT": "interruptBit", "MType": "independentBit", "ClrErr": "clearBit", "SDTMT": "transmitBit"}
+        names = {"Preset": "preset_bit", "CDir": "direction_bit", "TResp": "response_bit", "SLCINT": "interrupt_bit", "MType": "independent_bit", "ClrErr": "clear_bit", "SDTMT": "transmit_bit"}
         for shown, defined in names.items():
             self.assertEqual(bits_of(rows, shown), {bit_number(text, defined)}, shown)
-        self.assertEqual(used_bits(rows), named_bits(text, "setupCommandBits"))
+        self.assertEqual(used_bits(rows), named_bits(text, "setup_command_bits"))
         self.assertEqual(len(rows), len(names))
 
     def test_setup_words_and_their_ranges(self):
@@ -128,9 +128,9 @@ class Words(unittest.TestCase):
         self.assertEqual(set().union(*(span(word) for word in rows)), set(range(20)))
         places = {"top": "1", "preset": "2", "states": "11", "multiplier": "8", "divider": "9", "code": "10"}
         for field, word in places.items():
-            self.assertRegex(clause(text, "setupOf"), r"\b%s = word file %s\b" % (field, word))
-        self.assertRegex(clause(text, "setupOf"), r"md1 = record \{ low = word file 4; high = word file 5 \}")
-        self.assertRegex(clause(text, "setupOf"), r"md2 = record \{ low = word file 6; high = word file 7 \}")
+            self.assertRegex(clause(text, "setup_of"), r"\b%s = word file %s\b" % (field, word))
+        self.assertRegex(clause(text, "setup_of"), r"md1 = record \{ low = word file 4; high = word file 5 \}")
+        self.assertRegex(clause(text, "setup_of"), r"md2 = record \{ low = word file 6; high = word file 7 \}")
         self.assertIn("scale factor", rows["1"][1])
         self.assertIn("preset", rows["2"][1])
         self.assertIn("offset", rows["3"][1])
@@ -139,26 +139,26 @@ class Words(unittest.TestCase):
         self.assertIn("code", rows["10"][1])
         self.assertIn("active states", rows["11"][1])
         least, most = numbers(rows["1"][2])
-        self.assertEqual(clause(text, "sfBad").strip(), "ltb sf %d || ltb %d sf" % (least, most))
+        self.assertEqual(clause(text, "sf_bad").strip(), "ltb sf %d || ltb %d sf" % (least, most))
         for word in "4567":
-            self.assertEqual(clause(text, "detectorBad").strip(), "ltb %d low || ltb %d high || (eqb low high && not (eqb low 0))" % (numbers(rows[word][2])[1], numbers(rows[word][2])[1]))
+            self.assertEqual(clause(text, "detector_bad").strip(), "ltb %d low || ltb %d high || (eqb low high && not (eqb low 0))" % (numbers(rows[word][2])[1], numbers(rows[word][2])[1]))
         most_multiplier, (least_divisor, most_divisor), most_code = numbers(rows["8"][2])[1], numbers(rows["9"][2]), numbers(rows["10"][2])[1]
         self.assertEqual(least_divisor, 1)
         self.assertEqual([numbers(rows[word][2])[0] for word in "4 5 6 7 8 10".split()], [0] * 6)
         self.assertEqual(
-            clause(text, "scalarsBad").strip(), "ltb %d multiplier || eqb divisor 0 || ltb %d divisor || ltb %d code" % (most_multiplier, most_divisor, most_code)
+            clause(text, "scalars_bad").strip(), "ltb %d multiplier || eqb divisor 0 || ltb %d divisor || ltb %d code" % (most_multiplier, most_divisor, most_code)
         )
         first, last = numbers([word for word, row in rows.items() if row[1] == "reserved"][0])
-        self.assertIn("anyWord %d %d file" % (first, last), clause(text, "setupReserved"))
+        self.assertIn("any_word %d %d file" % (first, last), clause(text, "setup_reserved"))
 
     def test_setup_status_bits(self):
         text, rows = rules("SetupWords"), table("bit of word 100")
-        order = re.findall(r"sfBad|word file [23]\b|detectorBad|scalarsBad", clause(text, "setupErrors").replace("(sfJudged (word file 1))", "").replace("sfBad (word file 1)", "sfBad"))
-        self.assertEqual(order, ["sfBad", "word file 2", "word file 3", "detectorBad", "detectorBad", "scalarsBad"])
+        order = re.findall(r"sf_bad|word file [23]\b|detector_bad|scalars_bad", clause(text, "setup_errors").replace("(sf_judged (word file 1))", "").replace("sf_bad (word file 1)", "sf_bad"))
+        self.assertEqual(order, ["sf_bad", "word file 2", "word file 3", "detector_bad", "detector_bad", "scalars_bad"])
         for bit, name in enumerate(["SFErr", "PSTErr", "OFErr", "MD1Err", "MD2Err", "TSErr"]):
             self.assertEqual(bits_of(rows, name), {bit}, name)
-        self.assertEqual({1 << bit for bit in bits_of(rows, "SCWErr")}, {constant(text, "reservedStatus")})
-        self.assertEqual({1 << bit for bit in bits_of(rows, "MsgIgn")}, {constant(rules("Cycle"), "ignoredStatus")})
+        self.assertEqual({1 << bit for bit in bits_of(rows, "SCWErr")}, {constant(text, "reserved_status")})
+        self.assertEqual({1 << bit for bit in bits_of(rows, "MsgIgn")}, {constant(rules("Cycle"), "ignored_status")})
         words = {row[0]: row[3] for row in table("word", "M0: setup words")}
         self.assertEqual([words[word] for word in "0 1 2 3 4 5 6 7 8 9 10 11 12–19".split()], "15 0 1 2 3 3 4 4 5 5 5 none 15".split())
 
@@ -169,105 +169,105 @@ class Words(unittest.TestCase):
         for n in range(1, 7):
             self.assertEqual(rows["%d–%d" % (base + step * n, base + step * n + step - 1)], "group %d" % n)
         self.assertEqual(set().union(*(span(word) for word in rows)), set(range(20, 100)))
-        reserved = re.findall(r"anyWord (\d+) (\d+) file", clause(text, "groupReserved"))
+        reserved = re.findall(r"any_word (\d+) (\d+) file", clause(text, "group_reserved"))
         self.assertEqual({"–".join(dict.fromkeys(pair)) for pair in reserved}, {word for word, what in rows.items() if what.startswith("reserved")})
-        self.assertIn("word file 20", clause(text, "groupReserved"))
-        self.assertEqual({int(bit) for bit in re.findall(r"bit (\d+)", rows["20"])}, named_bits(text, "groupCommandBits"))
+        self.assertIn("word file 20", clause(text, "group_reserved"))
+        self.assertEqual({int(bit) for bit in re.findall(r"bit (\d+)", rows["20"])}, named_bits(text, "group_command_bits"))
 
     def test_group_control_word(self):
         text, rows = rules("GroupWords"), table("bit of a group's control word")
-        for shown, defined in {"FCITyp": "firstCycleBit", "GPTyp": "typeBit", "GPUsed": "usedBit"}.items():
+        for shown, defined in {"FCITyp": "first_cycle_bit", "GPTyp": "type_bit", "GPUsed": "used_bit"}.items():
             self.assertEqual(bits_of(rows, shown), {constant(text, defined)}, shown)
-        self.assertEqual(clause(text, "controlQuantity").strip(), "c % " + str(1 << len(bits_of(rows, "quantity"))))
-        self.assertEqual(clause(text, "controlMode").strip(), "c / %d %% %d" % (1 << min(bits_of(rows, "mode")), 1 << len(bits_of(rows, "mode"))))
-        self.assertEqual(used_bits(rows), named_bits(text, "groupControlBits"))
+        self.assertEqual(clause(text, "control_quantity").strip(), "c % " + str(1 << len(bits_of(rows, "quantity"))))
+        self.assertEqual(clause(text, "control_mode").strip(), "c / %d %% %d" % (1 << min(bits_of(rows, "mode")), 1 << len(bits_of(rows, "mode"))))
+        self.assertEqual(used_bits(rows), named_bits(text, "group_control_bits"))
         self.assertEqual(used_bits(rows) | spare_bits(rows), set(range(16)))
-        bad = clause(text, "groupProgramBad")
+        bad = clause(text, "group_program_bad")
         meaning = {row[1]: numbers(row[2]) for row in rows}
-        self.assertEqual(meaning["quantity"], [1, int(re.search(r"ltb (\d+) \(controlQuantity", bad)[1])])
-        self.assertEqual(meaning["mode"], [0, int(re.search(r"ltb (\d+) \(controlMode", bad)[1])])
+        self.assertEqual(meaning["quantity"], [1, int(re.search(r"ltb (\d+) \(control_quantity", bad)[1])])
+        self.assertEqual(meaning["mode"], [0, int(re.search(r"ltb (\d+) \(control_mode", bad)[1])])
 
     def test_group_status_bits(self):
         text, rows = rules("GroupWords"), table("bit of word 110")
-        order = re.findall(r"leb sf|groupProgramBad|pairBad", clause(text, "groupBits"))
-        self.assertEqual(order, ["leb sf", "groupProgramBad", "pairBad"])
+        order = re.findall(r"leb sf|group_program_bad|pair_bad", clause(text, "group_bits"))
+        self.assertEqual(order, ["leb sf", "group_program_bad", "pair_bad"])
         for bit, name in enumerate(["GOFErr", "GPgErr", "GCSErr"]):
             self.assertEqual(bits_of(rows, name), {bit}, name)
-        self.assertEqual({1 << bit for bit in bits_of(rows, "GCWErr")}, {constant(rules("SetupWords"), "reservedStatus")})
-        self.assertEqual({1 << bit for bit in bits_of(rows, "MsgIgn")}, {constant(rules("Cycle"), "ignoredStatus")})
+        self.assertEqual({1 << bit for bit in bits_of(rows, "GCWErr")}, {constant(rules("SetupWords"), "reserved_status")})
+        self.assertEqual({1 << bit for bit in bits_of(rows, "MsgIgn")}, {constant(rules("Cycle"), "ignored_status")})
         block = {row[0]: row[3] for row in table("word of a group's block")}
         self.assertEqual(block, {"0": "1", "1": "2", "2": "2", "3": "0"})
-        self.assertIn("leb sf (groupWord file n 3)", clause(text, "groupBits"))
-        self.assertIn("pairBad sf (groupWord file n 1) (groupWord file n 2)", clause(text, "groupBits"))
+        self.assertIn("leb sf (group_word file n 3)", clause(text, "group_bits"))
+        self.assertIn("pair_bad sf (group_word file n 1) (group_word file n 2)", clause(text, "group_bits"))
 
     def test_limit_words(self):
         text = rules("LimitWords")
         rows = {row[0]: row[1] for row in table("word", "M1: limit words")}
-        step, less = map(int, re.search(r"^blockAt n = (\d+) \* n - (\d+)$", text, re.M).groups())
+        step, less = map(int, re.search(r"^block_at n = (\d+) \* n - (\d+)$", text, re.M).groups())
         self.assertIn("%d × n − %d" % (step, less), rows["2–609"])
         self.assertEqual(span("2–609"), {word for n in range(1, 33) for word in range(step * n - less, step * n - less + 19)})
         for row in table("first word of the block of output"):
             first = int(row[0])
             self.assertEqual([int(word) for word in row[1:]], [step * n - less for n in range(first, first + 8)])
-        reserved = re.findall(r"anyWord (\d+) (\d+) file", clause(text, "limitReserved"))
+        reserved = re.findall(r"any_word (\d+) (\d+) file", clause(text, "limit_reserved"))
         self.assertEqual({"–".join(dict.fromkeys(pair)) for pair in reserved}, {word for word, what in rows.items() if what.startswith("reserved")})
         self.assertEqual(set().union(*(span(word) for word in rows)), set(range(630)))
-        self.assertEqual({int(bit) for bit in re.findall(r"bit (\d+)", rows["0"])}, named_bits(text, "limitCommandBits"))
+        self.assertEqual({int(bit) for bit in re.findall(r"bit (\d+)", rows["0"])}, named_bits(text, "limit_command_bits"))
 
     def test_limit_control_word(self):
         text, rows = rules("LimitWords"), table("bit of an output's control word")
-        self.assertEqual(bits_of(rows, "enable"), {constant(text, "enableBit")})
-        self.assertEqual(clause(text, "controlType").strip(), "c % " + str(1 << len(bits_of(rows, "type"))))
-        self.assertEqual(clause(text, "controlDetector").strip(), "c / %d %% %d" % (1 << min(bits_of(rows, "detector")), 1 << len(bits_of(rows, "detector"))))
-        self.assertEqual(used_bits(rows), named_bits(text, "limitControlBits"))
+        self.assertEqual(bits_of(rows, "enable"), {constant(text, "enable_bit")})
+        self.assertEqual(clause(text, "control_type").strip(), "c % " + str(1 << len(bits_of(rows, "type"))))
+        self.assertEqual(clause(text, "control_detector").strip(), "c / %d %% %d" % (1 << min(bits_of(rows, "detector")), 1 << len(bits_of(rows, "detector"))))
+        self.assertEqual(used_bits(rows), named_bits(text, "limit_control_bits"))
         self.assertEqual(used_bits(rows) | spare_bits(rows), set(range(16)))
 
     def test_limit_block(self):
         text, rows = rules("LimitWords"), {row[0]: row[1:] for row in table("word of an output's block")}
         self.assertEqual(set().union(*(span(word) for word in rows)), set(range(19)))
-        action = clause(text, "actionOf")
+        action = clause(text, "action_of")
         self.assertIn("quantity = word b 5; count = word b 6", action)
         self.assertIn("duration = word b 5", action)
         self.assertIn("quantity", rows["5"][1])
         self.assertIn("ON count", rows["6"][1])
         self.assertIn("duration", rows["5"][2])
-        self.assertIn("onadvance = advanceOf (word b 1)", clause(text, "limitOfBlock"))
+        self.assertIn("onadvance = advance_of (word b 1)", clause(text, "limit_of_block"))
         self.assertEqual([cell.split(" (")[0] for cell in rows["1"] + rows["2"]], ["ON advance"] * 3 + ["OFF advance"] * 3)
-        self.assertIn("(word b (2 * k + 3)) (word b (2 * k + 4))", clause(text, "blockPairBad"))
+        self.assertIn("(word b (2 * k + 3)) (word b (2 * k + 4))", clause(text, "block_pair_bad"))
         self.assertEqual([rows[word][0] for word in "3456"], ["ON 1", "OFF 1", "ON 2", "OFF 2"])
         self.assertEqual(rows["7–18"][0], "ON 3, OFF 3 to ON 8, OFF 8")
         ranges = {row[0]: row[1] for row in table("value", "M1: limit words")}
         self.assertEqual(numbers(ranges["advance"])[0], numbers(ranges["advance"])[1])
         self.assertEqual(numbers(ranges["duration T"])[0], 1)
-        self.assertEqual(clause(text, "advanceBad").strip(), "ltb %d (natAbs (signedWord w))" % numbers(ranges["advance"])[1])
-        self.assertIn("eqb (word b 5) 0 || ltb %d (word b 5)" % numbers(ranges["duration T"])[1], clause(text, "lengthBad"))
+        self.assertEqual(clause(text, "advance_bad").strip(), "ltb %d (nat_abs (signed_word w))" % numbers(ranges["advance"])[1])
+        self.assertIn("eqb (word b 5) 0 || ltb %d (word b 5)" % numbers(ranges["duration T"])[1], clause(text, "length_bad"))
         low, shown, shown_hex = re.search(r"−(\d+) is (\d+) \(([0-9A-F]+)h\)", ranges["advance"]).groups()
         self.assertEqual((65536 - int(low), int(shown_hex, 16)), (int(shown), int(shown)))
-        self.assertIn("leb 4 (countOf", clause(text, "fifthTimed"))
+        self.assertIn("leb 4 (count_of", clause(text, "fifth_timed"))
         self.assertIn("At most four real and four virtual outputs may be timed.", SENTENCES)
 
     def test_limit_status_bits(self):
         text, rows = rules("LimitWords"), table("bit of word 630")
-        order = re.findall(r"controlBad|advanceBad|setpointBad|lengthBit|touchBit", clause(text, "blockBits"))
-        self.assertEqual(order, ["controlBad", "advanceBad", "advanceBad", "setpointBad", "lengthBit", "touchBit"])
-        self.assertIn("cond (unassigned p n) 1", clause(text, "limitBits"))
+        order = re.findall(r"control_bad|advance_bad|setpoint_bad|length_bit|touch_bit", clause(text, "block_bits"))
+        self.assertEqual(order, ["control_bad", "advance_bad", "advance_bad", "setpoint_bad", "length_bit", "touch_bit"])
+        self.assertIn("cond (unassigned p n) 1", clause(text, "limit_bits"))
         begins = ["Group Mode", "control word", "an advance", "a setpoint", "duration", "two pulses touch"]
         self.assertEqual([row[1].startswith(begin) for row, begin in zip(rows, begins)], [True] * 6)
         self.assertEqual([row[0] for row in rows], "0 1 2 3 4 5 14 15".split())
-        self.assertEqual((constant(rules("Cycle"), "ignoredStatus"), constant(rules("SetupWords"), "reservedStatus")), (1 << 14, 1 << 15))
+        self.assertEqual((constant(rules("Cycle"), "ignored_status"), constant(rules("SetupWords"), "reserved_status")), (1 << 14, 1 << 15))
 
     def test_nudge_word(self):
         text, rows = rules("Nudge"), table("bit of the nudge word")
-        for shown, defined in {"ON": "onBit", "OFF": "offBit", "down": "downBit", "ClrErr": "nudgeClearBit"}.items():
+        for shown, defined in {"ON": "on_bit", "OFF": "off_bit", "down": "down_bit", "ClrErr": "nudge_clear_bit"}.items():
             self.assertEqual(bits_of(rows, shown), {constant(text, defined)}, shown)
-        self.assertEqual(bits_of(rows, "I/DTMT"), {constant(rules("Cycle"), "transmitBit")})
-        self.assertEqual(clause(text, "nudgeOutput").strip(), "w % " + str(1 << len(bits_of(rows, "output"))))
-        self.assertEqual(clause(text, "nudgePair").strip(), "w / %d %% %d" % (1 << min(bits_of(rows, "pair")), 1 << len(bits_of(rows, "pair"))))
-        self.assertEqual(spare_bits(rows), {int(bit) for bit in re.findall(r"bit w (\d+)", clause(text, "nudgeOutputBad"))})
+        self.assertEqual(bits_of(rows, "I/DTMT"), {constant(rules("Cycle"), "transmit_bit")})
+        self.assertEqual(clause(text, "nudge_output").strip(), "w % " + str(1 << len(bits_of(rows, "output"))))
+        self.assertEqual(clause(text, "nudge_pair").strip(), "w / %d %% %d" % (1 << min(bits_of(rows, "pair")), 1 << len(bits_of(rows, "pair"))))
+        self.assertEqual(spare_bits(rows), {int(bit) for bit in re.findall(r"bit w (\d+)", clause(text, "nudge_output_bad"))})
         self.assertEqual(used_bits(rows) | spare_bits(rows), set(range(16)))
-        transmit, on, off, down = (1 << constant(*of) for of in [(rules("Cycle"), "transmitBit"), (text, "onBit"), (text, "offBit"), (text, "downBit")])
+        transmit, on, off, down = (1 << constant(*of) for of in [(rules("Cycle"), "transmit_bit"), (text, "on_bit"), (text, "off_bit"), (text, "down_bit")])
         self.assertIn("So %04Xh moves ON of pair 2 of output 3 up by one count, and %04Xh ON and OFF of it down" % (transmit + on + 32 + 2, transmit + on + off + down + 32 + 2), SENTENCES)
-        self.assertIn("a nudge %04Xh, then 0" % (transmit + (1 << constant(text, "nudgeClearBit"))), SENTENCES)
+        self.assertIn("a nudge %04Xh, then 0" % (transmit + (1 << constant(text, "nudge_clear_bit"))), SENTENCES)
 
 
     def test_bits_stand_in_one_row_each(self):
@@ -277,29 +277,29 @@ class Words(unittest.TestCase):
     def test_what_sets_a_bit(self):
         reasons = {(title, row[0]): row[-1] for title in ["bit of word 0", "bit of word 100", "bit of word 110", "bit of word 630"] for row in table(title)}
         setup, group, limit = rules("SetupWords"), rules("GroupWords"), rules("LimitWords")
-        self.assertEqual(numbers(reasons["bit of word 0", "5"]), [0, int(re.search(r"cond fast \d+ (\d+)", clause(rules("Motion"), "windowTime"))[1]), 1, int(re.search(r"cond fast (\d+)", clause(rules("Motion"), "windowTime"))[1])])
-        self.assertEqual(numbers(reasons["bit of word 100", "0"]), numbers(clause(setup, "sfBad")))
-        self.assertEqual(numbers(reasons["bit of word 100", "3"])[1], numbers(clause(setup, "detectorBad"))[0])
-        self.assertIn("words %s to %s" % re.search(r"anyWord (\d+) (\d+)", clause(setup, "setupReserved")).groups(), reasons["bit of word 100", "15"])
-        bad = clause(group, "groupProgramBad")
-        self.assertIn("quantity 0 or over %s" % re.search(r"ltb (\d+) \(controlQuantity", bad)[1], reasons["bit of word 110", "1"])
-        self.assertIn("mode %d or 7" % (int(re.search(r"ltb (\d+) \(controlMode", bad)[1]) + 1), reasons["bit of word 110", "1"])
+        self.assertEqual(numbers(reasons["bit of word 0", "5"]), [0, int(re.search(r"cond fast \d+ (\d+)", clause(rules("Motion"), "window_time"))[1]), 1, int(re.search(r"cond fast (\d+)", clause(rules("Motion"), "window_time"))[1])])
+        self.assertEqual(numbers(reasons["bit of word 100", "0"]), numbers(clause(setup, "sf_bad")))
+        self.assertEqual(numbers(reasons["bit of word 100", "3"])[1], numbers(clause(setup, "detector_bad"))[0])
+        self.assertIn("words %s to %s" % re.search(r"any_word (\d+) (\d+)", clause(setup, "setup_reserved")).groups(), reasons["bit of word 100", "15"])
+        bad = clause(group, "group_program_bad")
+        self.assertIn("quantity 0 or over %s" % re.search(r"ltb (\d+) \(control_quantity", bad)[1], reasons["bit of word 110", "1"])
+        self.assertIn("mode %d or 7" % (int(re.search(r"ltb (\d+) \(control_mode", bad)[1]) + 1), reasons["bit of word 110", "1"])
         self.assertIn("word 20 is set, or word 21 or one of words 46 to 99", reasons["bit of word 110", "15"])
-        self.assertIn("otherBit groupCommandBits (word file 20) || anyWord 21 21 file || anyWord 46 99 file", clause(group, "groupReserved"))
+        self.assertIn("other_bit group_command_bits (word file 20) || any_word 21 21 file || any_word 46 99 file", clause(group, "group_reserved"))
         self.assertIn("word 0 is set, or word 1 or one of words 610 to 629", reasons["bit of word 630", "15"])
-        self.assertIn("otherBit limitCommandBits (word file 0) || anyWord 1 1 file || anyWord 610 629 file", clause(limit, "limitReserved"))
+        self.assertIn("other_bit limit_command_bits (word file 0) || any_word 1 1 file || any_word 610 629 file", clause(limit, "limit_reserved"))
         self.assertIn("type 3, detector 3", reasons["bit of word 630", "1"])
-        self.assertIn("eqb (controlDetector c) 3 || eqb (controlType c) 3", clause(limit, "controlBad"))
-        self.assertIn("duration 0 or over %s;" % re.search(r"ltb (\d+) \(word b 5\)", clause(limit, "lengthBad"))[1], reasons["bit of word 630", "4"])
+        self.assertIn("eqb (control_detector c) 3 || eqb (control_type c) 3", clause(limit, "control_bad"))
+        self.assertIn("duration 0 or over %s;" % re.search(r"ltb (\d+) \(word b 5\)", clause(limit, "length_bad"))[1], reasons["bit of word 630", "4"])
         for title in ["bit of word 100", "bit of word 110", "bit of word 630"]:
-            self.assertIn("refused with %d;" % cases(rules("Cycle"), "numberOf")["Ignored"], reasons[title, "14"])
+            self.assertIn("refused with %d;" % cases(rules("Cycle"), "number_of")["Ignored"], reasons[title, "14"])
 
     def test_types_and_detectors(self):
         rows = {row[1]: row[2] for row in table("bit of an output's control word")}
-        kinds = {kind: name.lower() for kind, name in re.findall(r"eqb \(a \.kind\) (\d)\) \(?(\w+)", clause(rules("Variants"), "switchOf"))}
-        types = re.findall(r"eqb \(blockType b\) (\d)\) \(record \{ kind = (\d);", clause(rules("LimitWords"), "actionOf"))
+        kinds = {kind: name.lower() for kind, name in re.findall(r"eqb a\.kind (\d)\) \(?(\w+)", clause(rules("Variants"), "switch_of"))}
+        types = re.findall(r"eqb \(block_type b\) (\d)\) \(record \{ kind = (\d);", clause(rules("LimitWords"), "action_of"))
         self.assertEqual(rows["type"], ", ".join("%s %s" % (number, kinds[kind]) for number, kind in types))
-        anded = dict(re.findall(r"eqb n (\d)\) (\w+)", clause(rules("Variants"), "andedOf")))
+        anded = dict(re.findall(r"eqb n (\d)\) (\w+)", clause(rules("Variants"), "anded_of")))
         self.assertEqual(anded, {"0": "Neither", "1": "First", "2": "Second"})
         self.assertEqual(rows["detector"], "0 none, 1 ANDed with motion detector 1, 2 with motion detector 2")
 
@@ -307,30 +307,30 @@ class Words(unittest.TestCase):
 class Cycles(unittest.TestCase):
     def test_files_command_and_status_words(self):
         text, rows = rules("FileCycle"), {row[0]: row[1:] for row in table("cycle")}
-        lengths = {"m0Length": constant(rules("Cycle"), "m0Length"), "m1Length": constant(rules("Cycle"), "m1Length")}
-        commands, statuses = cases(text, "commandAt"), cases(text, "statusAt")
+        lengths = {"m0_length": constant(rules("Cycle"), "m0_length"), "m1_length": constant(rules("Cycle"), "m1_length")}
+        commands, statuses = cases(text, "command_at"), cases(text, "status_at")
         for name, count in {"setup": 10, "group": 10, "limit": 20}.items():
             case = name.capitalize() + "Cycle"
-            of_file = lengths[re.search(r"^fileLength %s = (\w+)$" % case, text, re.M)[1]]
+            of_file = lengths[re.search(r"^file_length %s = (\w+)$" % case, text, re.M)[1]]
             file, words, command, status = rows[name]
-            self.assertEqual(numbers(words), [commands[case], commands[case] + cases(rules("Trace"), "sectionCount")[case] - 1], name)
+            self.assertEqual(numbers(words), [commands[case], commands[case] + cases(rules("Trace"), "section_count")[case] - 1], name)
             self.assertEqual(numbers(file)[-1], of_file, name)
             self.assertEqual(int(command), commands[case], name)
             self.assertEqual(numbers(status), [statuses[case], statuses[case] + count - 1], name)
-        self.assertIn("M0 of %d words" % lengths["m0Length"], SENTENCES)
-        self.assertIn("M1 of %d words" % lengths["m1Length"], SENTENCES)
+        self.assertIn("M0 of %d words" % lengths["m0_length"], SENTENCES)
+        self.assertIn("M1 of %d words" % lengths["m1_length"], SENTENCES)
 
     def test_number_of_status_words(self):
         text = rules("FileCycle")
-        self.assertRegex(text, r"(?m)^statusWords SetupCycle .*∷ replicate 8 0$")
-        self.assertRegex(text, r"(?m)^statusWords LimitCycle .*∷ replicate 18 0$")
+        self.assertRegex(text, r"(?m)^status_words SetupCycle .*∷ replicate 8 0$")
+        self.assertRegex(text, r"(?m)^status_words LimitCycle .*∷ replicate 18 0$")
         self.assertIn("Words 102 to 109 are 0.", SENTENCES)
         self.assertIn("Words 118 and 119 are 0.", SENTENCES)
         self.assertIn("Words 632 to 649 are 0.", SENTENCES)
 
     def test_errors_and_their_refusals(self):
-        defined = {refusal: re.search(r"(\w+) = true", record)[1] for refusal, record in re.findall(r"^errorOf (\w+) e = record \{(.*)\}$", rules("Cycle"), re.M)}
-        of_number = cases(rules("Cycle"), "numberOf")
+        defined = {refusal: re.search(r"(\w+) = true", record)[1] for refusal, record in re.findall(r"^error_of (\w+) e = record \{(.*)\}$", rules("Cycle"), re.M)}
+        of_number = cases(rules("Cycle"), "number_of")
         self.assertEqual(len(defined), 5)
         shown = {row[2].strip("`").split(".")[-1]: numbers(row[1])[-1] for row in table("error")}
         self.assertEqual(shown, {field: of_number[refusal] for refusal, field in defined.items()})
@@ -338,31 +338,31 @@ class Cycles(unittest.TestCase):
             self.assertRegex(HEADER.split("chimneyrye_errors;")[0].rsplit("typedef struct", 1)[1], r"bool %s;" % field)
 
     def test_refusals(self):
-        defined = {**cases(rules("Cycle"), "numberOf"), **cases(read("crates", "df1", "specs", "Frame.antt"), "numberOf")}
+        defined = {**cases(rules("Cycle"), "number_of"), **cases(read("crates", "df1", "specs", "Frame.antt"), "number_of")}
         self.assertEqual({row[1].strip("`"): int(row[0]) for row in table("number")}, defined)
 
     def test_status_words_in_the_refusals(self):
-        changes, statuses = {row[0]: row[3] + row[4] for row in table("number")}, cases(rules("FileCycle"), "statusAt")
+        changes, statuses = {row[0]: row[3] + row[4] for row in table("number")}, cases(rules("FileCycle"), "status_at")
         for number, case, count in [("6", "SetupCycle", 10), ("7", "GroupCycle", 10), ("8", "LimitCycle", 20)]:
             first = statuses[case]
             self.assertIn("words %d to %d" % (first, first + count - 1), changes[number])
             self.assertIn("read word 100," if number == "6" else "read words %d and %d," % (first + 1, first), changes[number])
-        self.assertIn("the first one %04Xh" % constant(rules("Cycle"), "ignoredStatus"), changes["5"])
+        self.assertIn("the first one %04Xh" % constant(rules("Cycle"), "ignored_status"), changes["5"])
         for number in ["9", "10", "11"]:
             self.assertIn("C000h", changes[number])
 
     def test_limits_in_the_refusals(self):
         causes = {row[0]: row[2] for row in table("number")}
-        spare = [int(bit) for bit in re.findall(r"bit w (\d+)", clause(rules("Nudge"), "nudgeOutputBad"))]
+        spare = [int(bit) for bit in re.findall(r"bit w (\d+)", clause(rules("Nudge"), "nudge_output_bad"))]
         self.assertIn("one of bits %d to %d is set" % (spare[0], spare[-1]), causes["9"])
-        self.assertIn("does not have %d words" % constant(rules("Cycle"), "m0Length"), causes["1"])
-        self.assertIn("does not have %d words" % constant(rules("Cycle"), "m1Length"), causes["2"])
-        known = re.search(r"oneOf \((\d+) ∷ (\d+) ∷ (\d+) ∷ \[\]\)", clause(rules("Variants"), "modelKnown")).groups()
+        self.assertIn("does not have %d words" % constant(rules("Cycle"), "m0_length"), causes["1"])
+        self.assertIn("does not have %d words" % constant(rules("Cycle"), "m1_length"), causes["2"])
+        known = re.search(r"one_of \((\d+) ∷ (\d+) ∷ (\d+) ∷ \[\]\)", clause(rules("Variants"), "model_known")).groups()
         self.assertIn("%s, %s, %s" % known, causes["3"])
-        self.assertIn("cond group 6 32", clause(rules("Reader"), "readerRefusal"))
+        self.assertIn("cond group 6 32", clause(rules("Reader"), "reader_refusal"))
         self.assertIn("outside 1 to 6 or an output outside 1 to 32", causes["4"])
-        self.assertIn("over %d," % constant(rules("Calls"), "rawMost"), causes["11"])
-        most = int(re.search(r"^allowed n = ltb 0 n && leb n (\d+)$", read("crates", "df1", "specs", "Frame.antt"), re.M)[1])
+        self.assertIn("over %d," % constant(rules("Calls"), "raw_most"), causes["11"])
+        most = int(re.search(r"^allowed n = nat_lt 0 n && nat_le n (\d+)$", read("crates", "df1", "specs", "Frame.antt"), re.M)[1])
         self.assertIn("of over %d" % most, causes["15"])
         self.assertIn("1 to %d data bytes" % most, causes["17"])
         self.assertIn("A frame has %d to %d bytes." % (1 + 5, 2 * most + 5), SENTENCES)
@@ -370,7 +370,7 @@ class Cycles(unittest.TestCase):
 
 class Steps(unittest.TestCase):
     def test_modules(self):
-        real, virtual = cases(rules("Variants"), "realCount"), cases(rules("Variants"), "virtualCount")
+        real, virtual = cases(rules("Variants"), "real_count"), cases(rules("Variants"), "virtual_count")
         rows = table("module")
         self.assertEqual([row[0] for row in rows], ["8511", "8512", "8513"])
         for number, shown, others in rows:
@@ -378,7 +378,7 @@ class Steps(unittest.TestCase):
             self.assertEqual(numbers(others), [17, 16 + virtual["M" + number]])
 
     def test_defaults(self):
-        text, rows = clause(rules("Calls"), "defaultSetup"), {row[0]: row[1] for row in table("default")}
+        text, rows = clause(rules("Calls"), "default_setup"), {row[0]: row[1] for row in table("default")}
         self.assertIn("top = %d;" % (int(rows["SF"]) - 1), text)
         multiplier, divisor, code = numbers(rows["multiplier, divisor, decimal code"])
         self.assertIn("multiplier = %d; divider = %d; code = %d" % (multiplier, divisor - 1, code), text)
@@ -387,9 +387,9 @@ class Steps(unittest.TestCase):
 
     def test_inputs(self):
         text, rows = rules("Motion"), {row[0]: row[1:] for row in table("input")}
-        self.assertEqual(clause(text, "groupInput n").strip(), "n")
+        self.assertEqual(clause(text, "group_input n").strip(), "n")
         self.assertEqual(rows["group 1 to 6"], ["1 to 6", "%d to %d" % (1 + 16, 6 + 16)])
-        for name, defined in {"LS Enable": "enableInput", "First Cycle": "firstCycleInput"}.items():
+        for name, defined in {"LS Enable": "enable_input", "First Cycle": "first_cycle_input"}.items():
             number = constant(text, defined) + 1
             self.assertEqual(rows[name], [str(number), str(number + 16)])
 
@@ -400,7 +400,7 @@ class Steps(unittest.TestCase):
         shown = {row[0] for row in rows if "shift" in row[1] or row[1] == "as in mode 1"}
         self.assertEqual(shown, presets)
         self.assertEqual({row[0] for row in rows if "offset" in row[1] or row[1] == "as in mode 0"}, set("012345") - presets)
-        opens = dict(re.findall(r"^isOpen Mode(\d) level opened = (\w+)$", text, re.M))
+        opens = dict(re.findall(r"^is_open Mode(\d) level opened = (\w+)$", text, re.M))
         self.assertEqual({row[0] for row in rows if row[2] == "always"}, {mode for mode, by in opens.items() if by == "true"})
         self.assertEqual({row[0] for row in rows if row[2] == "while its input is active"}, {mode for mode, by in opens.items() if by == "level"})
         offset = {row[0]: row[1] for row in table("word of a group's block")}["3"]
@@ -409,31 +409,31 @@ class Steps(unittest.TestCase):
     def test_sample(self):
         rows = table("word", "The sample")
         shown = [(int(row[0]), row[1].strip("`")) for row in rows]
-        defined = re.findall(r"(\w+) = wordAt bytes (\d+);", clause(rules("Trace"), "sampleAt"))
+        defined = re.findall(r"(\w+) = word_at bytes (\d+);", clause(rules("Trace"), "sample_at"))
         self.assertEqual(shown, [(int(place), field) for field, place in defined])
         self.assertEqual([name for _, name in shown], fields("sample"))
-        self.assertEqual(numbers(rows[0][2]), [0, constant(rules("Calls"), "rawMost")])
+        self.assertEqual(numbers(rows[0][2]), [0, constant(rules("Calls"), "raw_most")])
 
     def test_answer(self):
         shown = [row[0].strip("`") for row in table("field of the header")]
         self.assertEqual(shown, fields("answer"))
-        self.assertEqual(shown, re.findall(r"^  (\w+) = ", clause(rules("Switches"), "answerOf"), re.M))
+        self.assertEqual(shown, re.findall(r"^  (\w+) = ", clause(rules("Switches"), "answer_of"), re.M))
 
     def test_speed(self):
         text, rows = rules("Motion"), {row[0]: row[1:] for row in table("value", "Speed, tachometer, detectors")}
-        long_steps = re.search(r"cond fast (\d+) (\d+)", clause(text, "windowSteps")).groups()
-        times = re.search(r"cond fast (\d+) (\d+)", clause(text, "windowTime")).groups()
-        self.assertEqual(numbers(rows["c, for the advances"][0]), [constant(text, "shortSteps"), constant(text, "shortSteps") // 5])
+        long_steps = re.search(r"cond fast (\d+) (\d+)", clause(text, "window_steps")).groups()
+        times = re.search(r"cond fast (\d+) (\d+)", clause(text, "window_time")).groups()
+        self.assertEqual(numbers(rows["c, for the advances"][0]), [constant(text, "short_steps"), constant(text, "short_steps") // 5])
         for name, steps, time in zip(["rpm with TResp 1", "rpm with TResp 0"], long_steps, times):
             self.assertEqual(numbers(rows[name][0]), [int(steps), int(time)])
             self.assertIn("× 60000 / (1024 × %s)" % time, rows[name][1])
-        self.assertIn("natAbs c * 60000) (1024 * windowTime fast)", clause(text, "rpmOf"))
-        most = int(re.search(r"cond \(ltb (\d+) \(tachValue", clause(text, "tachShown"))[1])
+        self.assertIn("nat_abs c * 60000) (1024 * window_time fast)", clause(text, "rpm_of"))
+        most = int(re.search(r"cond \(ltb (\d+) \(tach_value", clause(text, "tach_shown"))[1])
         self.assertIn("Above %d it reads %d and TachOv is set" % (most, most), SENTENCES)
         self.assertEqual({row[0]: row[1] for row in table("field of the header")}["`tach`"], "tachometer, 0 to %d" % most)
-        self.assertIn("(pos 245760)", clause(rules("Switches"), "advanceShift"))
+        self.assertIn("(pos 245760)", clause(rules("Switches"), "advance_shift"))
         self.assertIn("s = a × c × SF / 245760", SENTENCES)
-        self.assertEqual(clause(rules("Switches"), "timedSteps").strip(), "5 * t")
+        self.assertEqual(clause(rules("Switches"), "timed_steps").strip(), "5 * t")
         self.assertIn("(5 × T steps)", SENTENCES)
 
     def test_tachometer_example(self):
@@ -443,48 +443,48 @@ class Steps(unittest.TestCase):
 class RackBus(unittest.TestCase):
     def test_bytes(self):
         text, rows = rules("Bus"), {row[0]: row[1:] for row in table("bytes")}
-        words = [word.strip() for word in clause(text, "inputTable").split("∷")[:-1]]
-        shown = {"statusBits g x": "errors", "x .position .0": "Machine Position", "x .tach": "tachometer", "x .real": "real outputs", "x .virtuals": "virtual outputs", "x .inputs": "active real inputs"}
+        words = [word.strip() for word in clause(text, "input_table").split("∷")[:-1]]
+        shown = {"status_bits g x": "errors", "x.position.0": "Machine Position", "x.tach": "tachometer", "x.real": "real outputs", "x.virtuals": "virtual outputs", "x.inputs": "active real inputs"}
         for number, word in enumerate(words[:6]):
             row = rows["%d–%d" % (2 * number, 2 * number + 1)]
             self.assertEqual(row[0], str(number))
             self.assertTrue(row[1].startswith(shown[word]), word)
         self.assertEqual((words[6:], rows["12–15"]), (["0", "0"], ["6, 7", "0"]))
-        self.assertEqual(constant(text, "tableBytes"), 2 * len(words))
-        self.assertIn("interrupt request", rows[str(constant(text, "requestByte"))][1])
-        self.assertIn("mask", rows[str(constant(text, "maskByte"))][1])
-        self.assertEqual(set().union(*(span(row) for row in rows)), set(range(constant(text, "maskByte") + 1)))
+        self.assertEqual(constant(text, "table_bytes"), 2 * len(words))
+        self.assertIn("interrupt request", rows[str(constant(text, "request_byte"))][1])
+        self.assertIn("mask", rows[str(constant(text, "mask_byte"))][1])
+        self.assertEqual(set().union(*(span(row) for row in rows)), set(range(constant(text, "mask_byte") + 1)))
 
     def test_bits_of_word_0(self):
         rows = table("bit of input word 0")
         self.assertEqual([row[0] for row in rows], [str(bit) for bit in range(16)])
-        names = {"SUErr": "g .errors .setup", "GPErr": "g .errors .group", "LSErr": "g .errors .limit", "I/DNum": "g .errors .number", "I/DSet": "g .errors .setpoint", "MsgIgn": "g .ignored", "ModFlt": "false"}
-        names |= {"TrFlt": "g .fault", "MD1": "x .md1", "MD2": "x .md2", "TachOv": "x .overflow", "": "false"}
-        names |= {"I/DAck": "g .acknowledges .nudge", "SUAck": "g .acknowledges .setup", "GPAck": "g .acknowledges .group", "LSAck": "g .acknowledges .limit"}
-        bits = re.search(r"bits\s*\((.*) ∷ \[\]\)", clause(rules("Bus"), "statusBits"), re.S)[1]
+        names = {"SUErr": "g.errors.setup", "GPErr": "g.errors.group", "LSErr": "g.errors.limit", "I/DNum": "g.errors.number", "I/DSet": "g.errors.setpoint", "MsgIgn": "g.ignored", "ModFlt": "false"}
+        names |= {"TrFlt": "g.fault", "MD1": "x.md1", "MD2": "x.md2", "TachOv": "x.overflow", "": "false"}
+        names |= {"I/DAck": "g.acknowledges.nudge", "SUAck": "g.acknowledges.setup", "GPAck": "g.acknowledges.group", "LSAck": "g.acknowledges.limit"}
+        bits = re.search(r"bits\s*\((.*) ∷ \[\]\)", clause(rules("Bus"), "status_bits"), re.S)[1]
         self.assertEqual([names[row[1]] for row in rows], [" ".join(bit.split()) for bit in bits.split("∷")])
         self.assertEqual({row[1] for row in rows if row[2].startswith("never")}, {name for name, bit in names.items() if bit == "false"})
 
     def test_refused_offsets(self):
         text, causes = rules("Bus"), {row[0]: row[2] for row in table("number")}
-        self.assertIn("offset over %d" % constant(text, "maskByte"), causes["13"])
-        self.assertIn("offset below %d" % constant(text, "tableBytes"), causes["14"])
+        self.assertIn("offset over %d" % constant(text, "mask_byte"), causes["13"])
+        self.assertIn("offset below %d" % constant(text, "table_bytes"), causes["14"])
 
 
 class Traces(unittest.TestCase):
     def test_sections(self):
-        counts, rows = cases(rules("Trace"), "sectionCount"), {row[0]: row[1:] for row in table("section")}
+        counts, rows = cases(rules("Trace"), "section_count"), {row[0]: row[1:] for row in table("section")}
         self.assertEqual(list(rows), ["module", "setup", "group", "limit", "samples"])
-        commands = cases(rules("FileCycle"), "commandAt")
+        commands = cases(rules("FileCycle"), "command_at")
         for name in ["setup", "group", "limit"]:
             case = name.capitalize() + "Cycle"
             self.assertEqual(numbers(rows[name][0]), [0, counts[case]])
             self.assertEqual(numbers(rows[name][1])[:2], [commands[case], commands[case] + counts[case] - 1])
-        self.assertIn("sectionOf badLine (1 ∷ [])", clause(rules("Trace"), "report"))
+        self.assertIn("section_of bad_line (1 ∷ [])", clause(rules("Trace"), "report"))
         self.assertEqual(rows["module"][0], "1")
 
     def test_largest_trace(self):
-        counts = cases(rules("Trace"), "sectionCount")
+        counts = cases(rules("Trace"), "section_count")
         largest = 2 * (2 + sum(1 + count for count in counts.values()) + 1 + 9 * 65535)
         self.assertIn("The largest whole trace has %s bytes" % format(largest, ","), SENTENCES)
 
@@ -514,9 +514,9 @@ class Header(unittest.TestCase):
     def test_returned_numbers(self):
         defined = {name: int(number) for name, number in re.findall(r"^    (CHIMNEYRYE_\w+) = (\d+),?$", HEADER, re.M)}
         self.assertEqual({row[1].strip("`"): int(row[0]) for row in table("returned")}, defined)
-        outcomes = dict(re.findall(r"^outcomeNumber (\w+) = (\d+)$", rules("Cycle"), re.M))
+        outcomes = dict(re.findall(r"^outcome_number (\w+) = (\d+)$", rules("Cycle"), re.M))
         self.assertEqual((defined["CHIMNEYRYE_IDLE"], defined["CHIMNEYRYE_ACCEPTED"]), (int(outcomes["Idle"]), int(outcomes["Accepted"])))
-        of_number = cases(rules("Cycle"), "numberOf")
+        of_number = cases(rules("Cycle"), "number_of")
         for refusal, number in of_number.items():
             name = "CHIMNEYRYE_" + re.sub(r"(?<=[a-z0-9])(?=[A-Z])", "_", refusal).upper()
             self.assertEqual(defined.get(name, number), number, name)
@@ -525,11 +525,11 @@ class Header(unittest.TestCase):
     def test_calls(self):
         declared = re.findall(r"^\w+ (chimneyrye_\w+)\(", HEADER, re.M)
         self.assertEqual([row[0].strip("`") for row in table("call", "The card from C")], declared)
-        of_number = cases(rules("Cycle"), "numberOf")
+        of_number = cases(rules("Cycle"), "number_of")
         returns = {row[0].strip("`"): set(numbers(row[1])) for row in table("call", "The card from C")}
         for name in ["setup", "group", "limit"]:
-            length = re.search(r"^lengthRefusal %sCycle = (\w+)$" % name.capitalize(), rules("FileCycle"), re.M)[1]
-            data = re.search(r"^dataRefusal %sCycle = (\w+)$" % name.capitalize(), rules("FileCycle"), re.M)[1]
+            length = re.search(r"^length_refusal %sCycle = (\w+)$" % name.capitalize(), rules("FileCycle"), re.M)[1]
+            data = re.search(r"^data_refusal %sCycle = (\w+)$" % name.capitalize(), rules("FileCycle"), re.M)[1]
             self.assertEqual(returns["chimneyrye_" + name], {0, 65535, of_number["Ignored"], of_number[length], of_number[data]})
         self.assertEqual(returns["chimneyrye_nudge"], {0, 65535, of_number["Ignored"], of_number["NudgeOutput"], of_number["NudgeSetpoint"]})
         self.assertEqual(returns["chimneyrye_power_up"], {0, of_number["UnknownModule"]})

@@ -1,7 +1,8 @@
 /*
  * chimneyrye.h: the limit switch card's calls, on a module that the host keeps where it sits.
  *
- * Link crates/card/out/libcard.a, which `rt staticlib card` writes for x86-64. It needs memcpy and nothing else: no heap, no global state.
+ * Link crates/card/out/libcard.a, which `rt lib` in crates/card writes for x86-64-v2. It needs memcpy and memset and nothing else: no heap, no
+ * global state.
  * Every call is proved to do what the card's rules say, whatever numbers the module, the sample and the file hold; docs/READING.md has the table.
  *
  * A card's loop:

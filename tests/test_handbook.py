@@ -558,7 +558,7 @@ class Header(unittest.TestCase):
 
 class Places(unittest.TestCase):
     def test_files_that_the_text_names_are_there(self):
-        named = re.findall(r"`((?:crates|docs|peer|tests|tools|bench)/[\w./-]+)`", HANDBOOK)
+        named = [path for path in re.findall(r"`((?:crates|docs|peer|tests|tools|bench)/[\w./-]+)`", HANDBOOK) if "/out/" not in path]
         self.assertGreater(len(named), 5)
         self.assertEqual([path for path in named if not os.path.exists(os.path.join(ROOT, path))], [])
 

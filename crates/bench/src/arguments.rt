@@ -3,7 +3,7 @@ use std::env::Env;
 use streams::arg;
 
 // A number, or what is none.
-#[derive(Drop)]
+#[derive(Clone, Copy)]
 pub enum Count {
     Unread,
     Number(u32),

@@ -22,28 +22,28 @@ pub const MOST_DATA: usize = 244;
 pub const LONGEST_FRAME: usize = 493;
 
 // Why a call was turned away: 15, 16 and 17 of document 02.
-#[derive(Drop)]
+#[derive(Clone, Copy)]
 pub enum Refusal {
     DataLength,
     ShortBuffer,
     NotAFrame,
 }
 
-#[derive(Drop)]
+#[derive(Clone, Copy)]
 pub enum Outcome {
     Accepted,
     Refused(Refusal),
 }
 
 // The number of bytes that were put into the lent buffer, 0 on a refusal.
-#[derive(Drop)]
+#[derive(Clone, Copy)]
 pub struct Answer {
     pub length: usize,
     pub outcome: Outcome,
 }
 
 // How much data a body holds, and its sum.
-#[derive(Drop)]
+#[derive(Clone, Copy)]
 struct Scan {
     count: usize,
     sum: u8,

@@ -1,22 +1,34 @@
 -- Laws of group blocks and of dealing.
 -- Assumes nothing.
 use Prim.Native.Nat.{ℕ, suc, ◌+◌, ◌-◌, ◌<◌}
-use mathlib.Core.Bool.{Bool, true, false, cond, ◌&&◌}
+use mathlib.Core.Bool.{Bool, true, false, cond, ◌&&◌, beq}
 use mathlib.Core.List.{List}
 use mathlib.Core.Path.{◌≡◌, refl, ap}
 use native.Mathlib.Numerals.{add-one}
 use native.Mathlib.Omega.{arith}
-use lib.Dec.{ltb}
+use lib.Dec.{ltb, leb}
 use lib.ListN.{length, get_or, drop}
 use lib.Seq.{drop-cons}
 use borrow.Author.Tests.{le-ltb}
 use Rattle.rules.specs.declared.Group.{Group}
 use Rattle.rules.specs.declared.IoType.{IoType}
+use Rattle.rules.specs.declared.IoType.TheVariants.{Real, Virtual}
 use Rattle.rules.specs.Words.{bit, table}
 use Rattle.rules.specs.Variants.{group_type}
 use Rattle.rules.specs.Groups.{no_group}
 use Rattle.rules.specs.GroupWords.{group_word, used_bit, same_type, group_of, dealt_up_to, dealt_to, owners_of}
 use Rattle.group_block.specs.Blocks.{share_of, owner_in}
+
+-- a number over SF − 1 is one that SF does not exceed
+pub over_top : (top x : ℕ) → ltb top x ≡ leb (top + 1) x
+over_top top x = rw (add-one top)
+
+-- two types are the same where both are real or neither is
+pub both_real : (a b : IoType) → beq (same_type Real a) (same_type Real b) ≡ same_type a b
+both_real Real Real = refl
+both_real Real Virtual = refl
+both_real Virtual Real = refl
+both_real Virtual Virtual = refl
 
 share_picked : (used : Bool) (t : IoType) (g : Group) → g.used ≡ true → share_of t (cond used g no_group) ≡ cond (used && same_type t (group_type g)) g.quantity 0
 unfolding share_of

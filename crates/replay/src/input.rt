@@ -7,7 +7,7 @@ use std::io::Stdin;
 use streams::read_full;
 
 // What the input had: nothing, the part of a word or of a file, or the whole of it.
-#[derive(Drop)]
+#[derive(Clone, Copy)]
 pub enum Input {
     Nothing,
     Cut,

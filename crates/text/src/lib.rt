@@ -7,7 +7,7 @@ use std::io::Print;
 use streams::write_all;
 
 // The bytes of a line so far. A byte that no longer fits is dropped: a line that could be so long is `flushed` on the way.
-#[derive(Drop)]
+#[derive(Clone, Copy)]
 pub struct Line {
     pub bytes: [u8; 192],
     pub len: usize,

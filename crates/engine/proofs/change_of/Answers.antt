@@ -16,13 +16,13 @@ abbrev Steps : Configuration → State → Sample → Change → Type 0
 Steps g x s r =
     (r.state ≡ step_state g x s) × (r.answer ≡ step_answer g x s) × (with_fault (with_raw g r.raw) r.fault ≡ step_configuration g s)
 
-sound-steps : (g : Configuration) (x : State) (s : Sample) → sound g s ≡ true → Steps g x s (sound_change g x s)
+sound_steps : (g : Configuration) (x : State) (s : Sample) → sound g s ≡ true → Steps g x s (sound_change g x s)
 unfolding sound_change sound_answer ruled_outputs step_state since_now step_answer outputs_now step_configuration
-sound-steps g x s e = (rw e, rw e, rw e)
+sound_steps g x s e = (rw e, rw e, rw e)
 
-fault-steps : (g : Configuration) (x : State) (s : Sample) → sound g s ≡ false → Steps g x s (fault_change g x s)
+fault_steps : (g : Configuration) (x : State) (s : Sample) → sound g s ≡ false → Steps g x s (fault_change g x s)
 unfolding fault_change fault_answer dark_outputs step_state since_now step_answer outputs_now step_configuration
-fault-steps g x s e = (rw e, rw e, rw e)
+fault_steps g x s e = (rw e, rw e, rw e)
 
 pub sound-requires : goal.sound-requires
 sound-requires c = tt
@@ -31,10 +31,10 @@ pub sound_step-requires : goal.sound_step-requires
 sound_step-requires c = tt
 
 pub returns-then-sound : goal.returns-then-sound
-returns-then-sound c = rw c.sound_step.ensures (sound-steps _ _ _ (unfold sound in (sym c.sound.ensures ∙ c.if-sound.true)))
+returns-then-sound c = rw c.sound_step.ensures (sound_steps _ _ _ (unfold sound in (sym c.sound.ensures ∙ c.if-sound.true)))
 
 pub fault_step-requires : goal.fault_step-requires
 fault_step-requires c = tt
 
 pub returns : goal.returns
-returns c = rw c.fault_step.ensures (fault-steps _ _ _ (unfold sound in (sym c.sound.ensures ∙ c.if-sound.false)))
+returns c = rw c.fault_step.ensures (fault_steps _ _ _ (unfold sound in (sym c.sound.ensures ∙ c.if-sound.false)))

@@ -11,15 +11,15 @@ use Rattle.df1.proofs.reading.read_frame.Goals as goal
 
 -- what a length that is not 0 shows
 module _ (input : List ℕ) (n : ℕ) (e : n ≡ found_length input) (some : n ≡ 0 → ⊥) where
-  is-frame : is_frame input ≡ true
-  is-frame = found_some input (λ z. some (e ∙ z))
+  frame_is : is_frame input ≡ true
+  frame_is = found_some input (λ z. some (e ∙ z))
 
   found : n ≡ length (data_of input)
   unfolding found_length
-  found = e ∙ rw is-frame
+  found = e ∙ rw frame_is
 
   long : 5 ≤ length input
-  long = frame_long input is-frame
+  long = frame_long input frame_is
 
   fitted : (room : ℕ) (a : Answer) → a ≡ answer_of (fit_outcome n room) n → a ≡ answer_of (fit_outcome (length (data_of input)) room) (length (data_of input))
   fitted room a h = rw found at h
@@ -36,7 +36,7 @@ returns-then-answer-eq0 c =
     let input = c.args.input.now in
     let out = c.args.out.now in
     let n = c.data_length-found.result in
-    let is = is-frame input n c.data_length-found.ensures c.if-found-eq0.false in
+    let is = frame_is input n c.data_length-found.ensures c.if-found-eq0.false in
     let h = fitted input n c.data_length-found.ensures c.if-found-eq0.false (length out) c.fitting-answer.result c.fitting-answer.ensures in
     let r = read_frame input (length out) is in
     let o = fits_not (length (data_of input)) (length out) (frame_some input is) (ap (λ (r : Answer). r.length) (sym h) ∙ c.if-answer-eq0.true) in
@@ -57,7 +57,7 @@ returns c =
     let input = c.args.input.now in
     let out = c.args.out.now in
     let n = c.data_length-found.result in
-    let is = is-frame input n c.data_length-found.ensures c.if-found-eq0.false in
+    let is = frame_is input n c.data_length-found.ensures c.if-found-eq0.false in
     let h = fitted input n c.data_length-found.ensures c.if-found-eq0.false (length out) c.fitting-answer.result c.fitting-answer.ensures in
     let w = fits_whole (length (data_of input)) (length out) (λ e. c.if-answer-eq0.false (ap (λ (r : Answer). r.length) h ∙ e)) in
     let r = read_frame input (length out) is in (

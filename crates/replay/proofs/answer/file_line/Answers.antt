@@ -5,11 +5,11 @@ use Rattle.rules.specs.declared.FileCycle.TheVariants.{SetupCycle, GroupCycle, L
 use Rattle.rules.specs.FileCycle.{status_at}
 use Rattle.replay.proofs.answer.file_line.Goals as goal
 
-status-small : (kind : FileCycle) → status_at kind ≤ 630
+status_small : (kind : FileCycle) → status_at kind ≤ 630
 unfolding status_at
-status-small SetupCycle = omega arith
-status-small GroupCycle = omega arith
-status-small LimitCycle = omega arith
+status_small SetupCycle = omega arith
+status_small GroupCycle = omega arith
+status_small LimitCycle = omega arith
 
 pub overflow_add-at : goal.overflow_add-at
-overflow_add-at c = omega (arith, status-small c.args.kind, c.status_at-at.ensures, c.status_count.ensures)
+overflow_add-at c = omega (arith, status_small c.args.kind, c.status_at-at.ensures, c.status_count.ensures)

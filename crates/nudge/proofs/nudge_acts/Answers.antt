@@ -10,33 +10,23 @@ returns-then-bit c = rw (c.accepted_cycle.ensures, ← c.bit.ensures) (rw c.if-b
 pub returns-then-stands : goal.returns-then-stands
 unfolding nudge_acts
 returns-then-stands c =
-    let kept = c in
-    rw (c.ignored_cycle.ensures, ← kept.bit.ensures, ← c.stands.ensures) (rw (kept.if-bit.false, c.if-stands.true))
+    rw (c.ignored_cycle.ensures, ← c.bit.ensures, ← c.stands.ensures) (rw (c.if-bit.false, c.if-stands.true))
 
 pub returns-then-output_bad : goal.returns-then-output_bad
 unfolding nudge_acts
 returns-then-output_bad c =
-    let free = c in
-    let kept = free in
-    rw (c.refused_cycle.ensures, ← kept.bit.ensures, ← free.stands.ensures, ← c.output_bad.ensures)
-    (rw (kept.if-bit.false, free.if-stands.false, c.if-output_bad.true))
+    rw (c.refused_cycle.ensures, ← c.bit.ensures, ← c.stands.ensures, ← c.output_bad.ensures)
+    (rw (c.if-bit.false, c.if-stands.false, c.if-output_bad.true))
 
 pub returns-then-setpoint_bad : goal.returns-then-setpoint_bad
 unfolding nudge_acts
 returns-then-setpoint_bad c =
-    let named = c in
-    let free = named in
-    let kept = free in
-    rw (c.refused_cycle-then-setpoint_bad.ensures, ← kept.bit.ensures, ← free.stands.ensures, ← named.output_bad.ensures, ← c.nudged_output.ensures, ← c.setpoint_bad.ensures)
-    (rw (kept.if-bit.false, free.if-stands.false, named.if-output_bad.false, c.if-setpoint_bad.true))
+    rw (c.refused_cycle-then-setpoint_bad.ensures, ← c.bit.ensures, ← c.stands.ensures, ← c.output_bad.ensures, ← c.nudged_output.ensures, ← c.setpoint_bad.ensures)
+    (rw (c.if-bit.false, c.if-stands.false, c.if-output_bad.false, c.if-setpoint_bad.true))
 
 pub returns : goal.returns
 unfolding nudge_acts
 returns c =
-    let sound = c in
-    let named = sound in
-    let free = named in
-    let kept = free in
-    let good = rw sound.nudged_output.ensures at (sym sound.setpoint_bad.ensures ∙ sound.if-setpoint_bad.false) in
-    rw (c.accepted_cycle-2.ensures, c.nudged_programming.ensures good, ← kept.bit.ensures, ← free.stands.ensures, ← named.output_bad.ensures, ← sound.nudged_output.ensures, ← sound.setpoint_bad.ensures)
-    (rw (kept.if-bit.false, free.if-stands.false, named.if-output_bad.false, sound.if-setpoint_bad.false))
+    let good = rw c.nudged_output.ensures at (sym c.setpoint_bad.ensures ∙ c.if-setpoint_bad.false) in
+    rw (c.accepted_cycle-2.ensures, c.nudged_programming.ensures good, ← c.bit.ensures, ← c.stands.ensures, ← c.output_bad.ensures, ← c.nudged_output.ensures, ← c.setpoint_bad.ensures)
+    (rw (c.if-bit.false, c.if-stands.false, c.if-output_bad.false, c.if-setpoint_bad.false))

@@ -7,9 +7,8 @@ use Rattle.nudge.proofs.nudge_cycle.Goals as goal
 pub returns-then-acts : goal.returns-then-acts
 unfolding nudge_call nudge_cycle cycle
 returns-then-acts c =
-    let at = c in
-    rw (c.finished.ensures, c.nudge_acts.ensures, c.underway-o.ensures, c.bit.ensures, ← at.acts.ensures)
-    (rw at.if-acts.true)
+    rw (c.finished.ensures, c.nudge_acts.ensures, c.underway-o.ensures, c.bit.ensures, ← c.acts.ensures)
+    (rw c.if-acts.true)
 
 pub returns : goal.returns
 unfolding nudge_call nudge_cycle cycle

@@ -5,8 +5,7 @@ use Rattle.setup.proofs.offset_of.Goals as goal
 pub returns-then-flag : goal.returns-then-flag
 unfolding setup_of
 returns-then-flag c =
-    let at = c in
-    rw (c.preset_offset.ensures, c.word_at-then-flag.ensures, c.flag-then-flag.ensures, c.word_at.ensures, ← at.flag.ensures)
+    rw (c.preset_offset.ensures, c.word_at-then-flag.ensures, c.flag-then-flag.ensures, c.word_at.ensures, ← c.flag.ensures)
     (rw c.if-flag.true)
 
 pub returns : goal.returns

@@ -5,13 +5,12 @@ use Rattle.switch.proofs.pair_holds.Goals as goal
 
 pub returns : goal.returns
 returns c =
-    let d = c in
-    let x = d.args in
+    let x = c.args in
     rw (
       pair_displaced x.top (c_value x.c) x.l x.k x.p,
       c.pair_at.ensures,
       c.setpoint-2.ensures,
       c.setpoint.ensures,
-      d.displace-d.ensures.0,
-      d.displace-d.ensures.1,
+      c.displace-d.ensures.0,
+      c.displace-d.ensures.1,
     )

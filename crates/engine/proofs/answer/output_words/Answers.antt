@@ -6,13 +6,12 @@ use Rattle.engine.proofs.answer.output_words.Goals as goal
 pub returns : goal.returns
 unfolding output_words
 returns c =
-    let f = c in
-    let a = f.args in
+    let a = c.args in
     rw (
       c.forced-2.ensures,
       c.virtual_present.ensures,
-      f.forced.ensures,
-      f.present.ensures,
+      c.forced.ensures,
+      c.present.ensures,
       real_word a.m a.s a.rule,
       virtual_word a.m a.s a.rule,
     )

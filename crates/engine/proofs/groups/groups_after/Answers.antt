@@ -21,9 +21,8 @@ loop-n-init c =
 
 pub loop-n-preserved : goal.loop-n-preserved
 loop-n-preserved c =
-    let t = c in
-    let l = t.loop-n in
-    let a = t.args in
+    let l = c.loop-n in
+    let a = c.args in
     let r = c.group_after-a.ensures in (
       omega arith,
       up_more 6 l.n (state_at a.w a.gs a.xs) l.states _ (omega arith) l.invariant.1 r.0,

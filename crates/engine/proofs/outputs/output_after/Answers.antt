@@ -5,10 +5,9 @@ use Rattle.engine.proofs.outputs.output_after.Goals as goal
 
 pub returns-then-l-eq-TIMED : goal.returns-then-l-eq-TIMED
 returns-then-l-eq-TIMED c =
-    let t = c in
-    let a = t.args in
-    let e = t.timed_now-timed.ensures in
-    (rw (c.passes.ensures, e) (sym (timed_on a.w a.l a.position a.isopen a.n a.x t.if-l-eq-TIMED.true)), e)
+    let a = c.args in
+    let e = c.timed_now-timed.ensures in
+    (rw (c.passes.ensures, e) (sym (timed_on a.w a.l a.position a.isopen a.n a.x c.if-l-eq-TIMED.true)), e)
 
 pub returns : goal.returns
 returns c =

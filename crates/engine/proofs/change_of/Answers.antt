@@ -1,5 +1,4 @@
 -- `engine::change_of` meets its contract: a fault or a raw over 1023 is what is not sound. Assumes nothing.
--- a change is that of 01's step
 use mathlib.Core.Bool.{true, false}
 use mathlib.Core.Path.{◌≡◌, sym, ◌∙◌}
 use Rattle.rules.specs.declared.Configuration.{Configuration}
@@ -12,6 +11,7 @@ use Rattle.engine.specs.declared.Change.{Change}
 use Rattle.engine.specs.Parts.{ruled_outputs, dark_outputs, sound_answer, sound_change, fault_answer, fault_change}
 use Rattle.engine.proofs.change_of.Goals as goal
 
+-- a change is that of 01's step
 abbrev Steps : Configuration → State → Sample → Change → Type 0
 Steps g x s r =
     (r.state ≡ step_state g x s) × (r.answer ≡ step_answer g x s) × (with_fault (with_raw g r.raw) r.fault ≡ step_configuration g s)

@@ -1,5 +1,4 @@
 -- `engine::sound_step` meets its contract: the calls put together. Assumes nothing.
--- the active real inputs among what the step reads
 use mathlib.Core.Path.{◌≡◌, refl}
 use Rattle.rules.specs.Motion.{conditions, real_inputs}
 use Rattle.rules.specs.Card.{conditions_now}
@@ -10,6 +9,7 @@ use Rattle.engine.specs.Parts.{ruled_outputs, sound_answer, sound_change}
 use Rattle.engine.proofs.Words.{words_packed}
 use Rattle.engine.proofs.sound_step.Goals as goal
 
+-- the active real inputs among what the step reads
 real_are : (g : Configuration) (x : SinceStart) (s : Sample) → (conditions_now g x s).real ≡ real_inputs g s
 unfolding conditions_now conditions
 real_are g x s = refl

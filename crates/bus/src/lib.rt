@@ -2,14 +2,10 @@
 #![tactic(auto)]
 
 ghost use Rattle.std.specs.Prelude.{◌≡◌, cond, ◌/◌, ◌%◌, eqb};
-ghost use Rattle.rules.specs.declared.Outcome.TheVariants.{Refused};
-ghost use Rattle.rules.specs.Words as words;
 ghost use Rattle.rules.specs.Bus as bus;
 ghost use Rattle.rules.specs.Card as card;
 
-use rules::{
-    Bus, BusResult, ByteRead, Configuration, CycleResult, Kept, Module, Outcome, Refusal, Shown,
-};
+use rules::{Bus, Configuration, CycleResult, Kept, Module, Outcome, Refusal, Shown};
 
 // The bytes of the request and of the mask; those below are the input table's.
 const REQUEST: u16 = 16;
@@ -31,13 +27,13 @@ fn status_bits(g: Configuration, x: Shown) -> u16
     low + 64 * (middle + 64 * high)
 }
 
+#[tactic(auto, unfolding(rules::specs::Bus::input_table))]
 fn input_table(g: Configuration, x: Shown) -> [u16; 8]
     ensures { result ≡ bus.input_table g x }
 {
-    let position = x.position;
     [
         status_bits(g, x),
-        position.0,
+        x.position.0,
         x.tach,
         x.real,
         x.virtuals,
@@ -66,40 +62,28 @@ fn table_byte(g: Configuration, x: Shown, n: u16) -> u8
 
 // ---- Reads
 
-// The byte of the request or of the mask.
-fn flag(b: bool) -> u8
-    ensures { result ≡ words.digit b }
-{
-    if b { 1 } else { 0 }
-}
-
 // The byte at an offset of at most 17.
+#[tactic(auto, unfolding(rules::specs::Bus::byte_at))]
 fn byte_at(g: Configuration, x: Kept, n: u16) -> u8
     ensures { result ≡ bus.byte_at g x n }
 {
     if n < REQUEST {
-        return table_byte(g, x.shown, n);
+        table_byte(g, x.shown, n)
+    } else if n == REQUEST {
+        u8::from(x.bus.request)
+    } else {
+        u8::from(x.bus.mask)
     }
-    let b = x.bus;
-    if n == REQUEST {
-        return flag(b.request);
-    }
-    flag(b.mask)
 }
 
-pub fn read_byte(m: Module, offset: u16) -> ByteRead
+#[tactic(auto, unfolding(rules::specs::Bus::byte_read, rules::specs::Card::read_call))]
+pub fn read_byte(m: Module, offset: u16) -> Result<u8, Refusal>
     ensures { result ≡ card.read_call m offset }
 {
     if MASK < offset {
-        return ByteRead {
-            outcome: Outcome::Refused(Refusal::ByteOffset),
-            value: 0,
-        };
+        return Err(Refusal::ByteOffset);
     }
-    ByteRead {
-        outcome: Outcome::Accepted,
-        value: byte_at(m.configuration, m.state.kept, offset),
-    }
+    Ok(byte_at(m.configuration, m.state.kept, offset))
 }
 
 // ---- Writes
@@ -109,39 +93,28 @@ pub fn read_byte(m: Module, offset: u16) -> ByteRead
 fn stored(b: Bus, n: u16, value: u8) -> Bus
     ensures { result ≡ bus.stored b n value }
 {
-    let one = word::bit(value as u16, 0);
-    let mut after = b;
+    let one = word::bit(u16::from(value), 0);
     if n == REQUEST {
-        after.request = b.request & !one;
-        return after;
-    }
-    after.mask = one;
-    after
-}
-
-fn refused(b: Bus, why: Refusal) -> BusResult
-    ensures { result ≡ record { bus = b; outcome = Refused why } }
-{
-    BusResult {
-        bus: b,
-        outcome: Outcome::Refused(why),
+        Bus {
+            request: b.request & !one,
+            ..b
+        }
+    } else {
+        Bus { mask: one, ..b }
     }
 }
 
 // A byte written: 13 for an offset over 17, first; 14 for one of the input table.
 #[tactic(auto, unfolding(rules::specs::Bus::bus_write))]
-pub fn written(b: Bus, offset: u16, value: u8) -> BusResult
+pub fn written(b: Bus, offset: u16, value: u8) -> Result<Bus, Refusal>
     ensures { result ≡ bus.bus_write b offset value }
 {
     if MASK < offset {
-        return refused(b, Refusal::ByteOffset);
-    }
-    if offset < REQUEST {
-        return refused(b, Refusal::ReadOnlyByte);
-    }
-    BusResult {
-        bus: stored(b, offset, value),
-        outcome: Outcome::Accepted,
+        Err(Refusal::ByteOffset)
+    } else if offset < REQUEST {
+        Err(Refusal::ReadOnlyByte)
+    } else {
+        Ok(stored(b, offset, value))
     }
 }
 
@@ -149,19 +122,14 @@ pub fn written(b: Bus, offset: u16, value: u8) -> BusResult
 pub fn write_byte(m: Module, offset: u16, value: u8) -> CycleResult
     ensures { result ≡ card.write_call m offset value }
 {
-    let w = written(m.state.kept.bus, offset, value);
-    let outcome = w.outcome;
-    let after = w.bus;
-    let mut kept = m.state.kept;
-    kept.bus = after;
-    let mut state = m.state;
-    state.kept = kept;
+    let before = m.state.kept.bus;
+    let (after, outcome) = match written(before, offset, value) {
+        Ok(after) => (after, Outcome::Accepted),
+        Err(why) => (before, Outcome::Refused(why)),
+    };
     let mut card = m;
-    card.state = state;
-    CycleResult {
-        card: card,
-        outcome: outcome,
-    }
+    card.state.kept.bus = after;
+    CycleResult { card, outcome }
 }
 
 // ---- The line

@@ -3,15 +3,14 @@
 
 #![tactic(auto)]
 
-mod calls;
-
 ghost use Rattle.std.specs.Prelude.{◌≡◌};
 ghost use Rattle.rules.specs.declared.FileCycle.TheVariants.{SetupCycle, GroupCycle, LimitCycle};
-ghost use Rattle.rules.specs.Cycle.{outcome_number};
+ghost use Rattle.rules.specs.Cycle.{outcome_number, outcome_of};
+ghost use Rattle.rules.specs.Bus.{byte_shown};
 ghost use Rattle.rules.specs.Card as card;
 
-use crate::calls::{changed, grouped, limited, nudged, powered, read, set_up, written};
-use rules::{Answer, Module, Sample};
+use file_cycle::file_cycle;
+use rules::{Answer, FileCycle, Module, Sample};
 
 // What a byte read answers: 0 and the byte, or 13 and 0.
 #[repr(C)]
@@ -26,9 +25,18 @@ pub struct Byte {
 pub extern "C" fn chimneyrye_power_up(m: &mut Module, number: u16) -> u16
     ensures { (m.new ≡ (card.powered_up m.old number).card) × (result ≡ outcome_number (card.powered_up m.old number).outcome) }
 {
-    let r = powered(*m, number);
+    let r = Module::power_up(*m, number);
     *m = r.card;
-    r.number
+    u16::from(r.outcome)
+}
+
+// A cycle that takes a file, on the lent module.
+fn cycle_on(kind: FileCycle, m: &mut Module, file: &mut [u16]) -> u16
+    ensures { (m.new ≡ (card.file_call kind m.old file.old).card) × (result ≡ outcome_number (card.file_call kind m.old file.old).outcome) × (file.new ≡ card.file_left kind m.old file.old) }
+{
+    let r = file_cycle(kind, *m, file);
+    *m = r.card;
+    u16::from(r.outcome)
 }
 
 // The setup cycle, on a lent M0 file.
@@ -36,9 +44,7 @@ pub extern "C" fn chimneyrye_power_up(m: &mut Module, number: u16) -> u16
 pub extern "C" fn chimneyrye_setup(m: &mut Module, file: &mut [u16]) -> u16
     ensures { (m.new ≡ (card.file_call SetupCycle m.old file.old).card) × (result ≡ outcome_number (card.file_call SetupCycle m.old file.old).outcome) × (file.new ≡ card.file_left SetupCycle m.old file.old) }
 {
-    let r = set_up(*m, file);
-    *m = r.card;
-    r.number
+    cycle_on(FileCycle::SetupCycle, m, file)
 }
 
 // The group cycle, on a lent M0 file.
@@ -46,9 +52,7 @@ pub extern "C" fn chimneyrye_setup(m: &mut Module, file: &mut [u16]) -> u16
 pub extern "C" fn chimneyrye_group(m: &mut Module, file: &mut [u16]) -> u16
     ensures { (m.new ≡ (card.file_call GroupCycle m.old file.old).card) × (result ≡ outcome_number (card.file_call GroupCycle m.old file.old).outcome) × (file.new ≡ card.file_left GroupCycle m.old file.old) }
 {
-    let r = grouped(*m, file);
-    *m = r.card;
-    r.number
+    cycle_on(FileCycle::GroupCycle, m, file)
 }
 
 // The limit cycle, on a lent M1 file.
@@ -56,9 +60,7 @@ pub extern "C" fn chimneyrye_group(m: &mut Module, file: &mut [u16]) -> u16
 pub extern "C" fn chimneyrye_limit(m: &mut Module, file: &mut [u16]) -> u16
     ensures { (m.new ≡ (card.file_call LimitCycle m.old file.old).card) × (result ≡ outcome_number (card.file_call LimitCycle m.old file.old).outcome) × (file.new ≡ card.file_left LimitCycle m.old file.old) }
 {
-    let r = limited(*m, file);
-    *m = r.card;
-    r.number
+    cycle_on(FileCycle::LimitCycle, m, file)
 }
 
 // The nudge cycle.
@@ -66,17 +68,18 @@ pub extern "C" fn chimneyrye_limit(m: &mut Module, file: &mut [u16]) -> u16
 pub extern "C" fn chimneyrye_nudge(m: &mut Module, word: u16) -> u16
     ensures { (m.new ≡ (card.nudge_call m.old word).card) × (result ≡ outcome_number (card.nudge_call m.old word).outcome) }
 {
-    let r = nudged(*m, word);
+    let r = nudge::nudge_cycle(*m, word);
     *m = r.card;
-    r.number
+    u16::from(r.outcome)
 }
 
 // One step, on the module where it sits. What a step does not change is not stored: stored whole, the module would be copied several times in every step.
+#[tactic(auto, unfolding(rules::specs::Card::step_call))]
 #[unsafe(no_mangle)]
 pub extern "C" fn chimneyrye_step(m: &mut Module, s: Sample) -> Answer
     ensures { (m.new ≡ (card.step_call m.old s).card) × (result ≡ (card.step_call m.old s).answer) }
 {
-    let c = changed(*m, s);
+    let c = engine::change_of(*m, s);
     m.state = c.state;
     m.configuration.raw = c.raw;
     m.configuration.fault = c.fault;
@@ -86,9 +89,15 @@ pub extern "C" fn chimneyrye_step(m: &mut Module, s: Sample) -> Answer
 // A byte of the rack bus read.
 #[unsafe(no_mangle)]
 pub extern "C" fn chimneyrye_read_byte(m: &Module, offset: u16) -> Byte
-    ensures { (result.number ≡ outcome_number (card.read_call m.now offset).outcome) × (result.value ≡ (card.read_call m.now offset).value) }
+    ensures { (result.number ≡ outcome_number (outcome_of (card.read_call m.now offset))) × (result.value ≡ byte_shown (card.read_call m.now offset)) }
 {
-    read(*m, offset)
+    match bus::read_byte(*m, offset) {
+        Ok(value) => Byte { number: 0, value },
+        Err(why) => Byte {
+            number: u16::from(why),
+            value: 0,
+        },
+    }
 }
 
 // A byte of the rack bus written. Only the request and the mask are stored.
@@ -97,9 +106,13 @@ pub extern "C" fn chimneyrye_read_byte(m: &Module, offset: u16) -> Byte
 pub extern "C" fn chimneyrye_write_byte(m: &mut Module, offset: u16, value: u8) -> u16
     ensures { (m.new ≡ (card.write_call m.old offset value).card) × (result ≡ outcome_number (card.write_call m.old offset value).outcome) }
 {
-    let w = written(m.state.kept.bus, offset, value);
-    m.state.kept.bus = w.bus;
-    w.number
+    match bus::written(m.state.kept.bus, offset, value) {
+        Ok(after) => {
+            m.state.kept.bus = after;
+            0
+        }
+        Err(why) => u16::from(why),
+    }
 }
 
 // The line's level.

@@ -8,15 +8,15 @@ use mathlib.Core.List.{List, [], ◌∷◌}
 use native.Mathlib.Omega.{arith}
 use lib.Dec.{ltb, eqb}
 use borrow.Author.Tests.{ltb-true, ltb-false, eqb-true, eqb-false, lt-ltb, le-ltb, ne_eqb}
+use Rattle.std.specs.Prelude.{Ok}
 use Rattle.rules.specs.declared.Model.{Model}
 use Rattle.rules.specs.declared.Bus.{Bus}
 use Rattle.rules.specs.declared.Module.{Module}
-use Rattle.rules.specs.declared.Outcome.TheVariants.{Accepted}
 use Rattle.rules.specs.Words.{bit}
 use Rattle.rules.specs.Variants.{model_known, model_of}
 use Rattle.rules.specs.Motion.{real_inputs}
-use Rattle.rules.specs.Cycle.{with_ignored}
-use Rattle.rules.specs.Bus.{shown_by, requested, line_of, table_bytes, request_byte, mask_byte, byte_at, byte_read, stored, bus_write}
+use Rattle.rules.specs.Cycle.{outcome_of, with_ignored}
+use Rattle.rules.specs.Bus.{shown_by, requested, line_of, table_bytes, request_byte, mask_byte, byte_at, byte_read, stored, bus_write, bus_left}
 use Rattle.rules.specs.Calls.{Access, Read, Write, Call, Step, FileCall, NudgeCall, ByteCall, Stepped, Showed, Written}
 use Rattle.rules.specs.Card.{fresh_module, powered_up, file_call, file_left, nudge_call, step_answer, kept_after, step_state, step_call, with_bus, read_call, write_call, line_level}
 use Rattle.rules.specs.Run.{accessed, module_after, run, reply, replies, is_access, without_accesses, other_replies}
@@ -48,7 +48,7 @@ configuration_shown model l = configuration_is model l ∙ (λ i. with_ignored (
 
 -- a byte write at an offset n: what it does to the request and to the mask
 module _ (b : Bus) (n v : ℕ) where
-  pub write_request : (bus_write b n v).bus.request ≡ (not (eqb n request_byte && bit v 0) && b.request)
+  pub write_request : (bus_left b (bus_write b n v)).request ≡ (not (eqb n request_byte && bit v 0) && b.request)
   unfolding bus_write stored
   write_request =
       by (ltb mask_byte n)
@@ -57,7 +57,7 @@ module _ (b : Bus) (n v : ℕ) where
       (λ r. let h = ltb-true n 16 r in rw (q, r, ne_eqb n 16 (λ e. omega arith)))
       (λ r. by (eqb n request_byte) (λ e. rw (q, r, e) (and_comm b.request (not (bit v 0)))) (λ e. rw (q, r, e))))
 
-  pub write_mask : (bus_write b n v).bus.mask ≡ ((eqb n mask_byte && bit v 0) || (not (eqb n mask_byte) && b.mask))
+  pub write_mask : (bus_left b (bus_write b n v)).mask ≡ ((eqb n mask_byte && bit v 0) || (not (eqb n mask_byte) && b.mask))
   unfolding bus_write stored
   write_mask =
       by (ltb mask_byte n)
@@ -126,7 +126,7 @@ unfolding read_call
 read_is model l n = λ i. byte_read (configuration_shown model l i) (kept_is model l i) n
 
 -- EVERY BYTE 0 TO 15, over every list: words 0 to 7 as the list tells them
-pub table_is : (model : Model) (l : List Call) (n : ℕ) → n < 16 → read_call (run model l) n ≡ record { outcome = Accepted; value = byte_told model l n }
+pub table_is : (model : Model) (l : List Call) (n : ℕ) → n < 16 → read_call (run model l) n ≡ Ok (byte_told model l n)
 unfolding byte_read byte_at byte_told kept_told
 table_is model l n b = read_is model l n ∙ rw (le-ltb 17 n (omega arith), lt-ltb n 16 b)
 
@@ -138,7 +138,7 @@ reply_is model l (Step s) = ap Stepped (history model l s)
 reply_is model l (FileCall kind file) = rw (configuration_is model l, positions_are model l)
 reply_is model l (NudgeCall w) = rw (configuration_is model l)
 reply_is model l (ByteCall (Read n)) = ap Showed (read_is model l n)
-reply_is model l (ByteCall (Write n v)) = λ i. Written (bus_write (record { request = request_is model l i; mask = mask_is model l i }) n v).outcome
+reply_is model l (ByteCall (Write n v)) = λ i. Written (outcome_of (bus_write (record { request = request_is model l i; mask = mask_is model l i }) n v))
 
 replies_from : (model : Model) (past calls : List Call) → replies (run model past) calls ≡ expected_replies model past calls
 unfolding replies expected_replies run
@@ -171,7 +171,7 @@ same_but x b (ByteCall a) e = absurd (true≢false e)
 access_leaves : (x : Module) (a : Access) → (after : Bus) × (module_after x (ByteCall a) ≡ with_bus x after)
 unfolding module_after accessed write_call
 access_leaves x (Read n) = (x.state.kept.bus, refl)
-access_leaves x (Write n v) = ((bus_write x.state.kept.bus n v).bus, refl)
+access_leaves x (Write n v) = (bus_left x.state.kept.bus (bus_write x.state.kept.bus n v), refl)
 
 -- what is said of the calls that come later, with this one before them
 with_call : (x : Module) (b : Bus) (call : Call) (calls : List Call) → is_access call ≡ false

@@ -23,14 +23,14 @@ use Rattle.rules.specs.declared.Module.{Module}
 use Rattle.rules.specs.Words.{bit}
 use Rattle.rules.specs.Variants.{model_known, model_of, model_in}
 use Rattle.rules.specs.Switches.{limit_of}
-use Rattle.rules.specs.Cycle.{number_of, outcome_number, no_errors, acts, underway, cycle, idle_cycle, turned_away, ignored_cycle, refused_cycle, accepted_cycle, judged, stands}
+use Rattle.rules.specs.Cycle.{number_of, outcome_number, outcome_of, no_errors, acts, underway, cycle, idle_cycle, turned_away, ignored_cycle, refused_cycle, accepted_cycle, judged, stands}
 use Rattle.rules.specs.SetupWords.{setup_errors}
 use Rattle.rules.specs.GroupWords.{group_errors}
 use Rattle.rules.specs.LimitWords.{limit_errors}
 use Rattle.rules.specs.FileCycle.{file_length, length_refusal, command_at, data_refusal, barred, file_errors, brought, command, clears, file_acts, file_cycle}
 use Rattle.rules.specs.Nudge.{nudge_output_bad, nudge_setpoint_bad, nudged_programming, nudge_acts, nudge_cycle}
 use Rattle.rules.specs.Reader.{reader_refusal, reader_part}
-use Rattle.rules.specs.Bus.{byte_read, bus_write}
+use Rattle.rules.specs.Bus.{byte_read, byte_shown, bus_write}
 use Rattle.rules.specs.Calls.{Access, Read, Write}
 use Rattle.rules.specs.Card.{fresh_module, powered_up, file_call, nudge_call, read_call, write_call}
 use Rattle.rules.specs.Run.{accessed}
@@ -304,7 +304,7 @@ access_causes (Write n v) = (ltb 17 n, 13) ∷ (ltb n 16, 14) ∷ []
 
 -- what an access of a module is answered: 0 or its refusal's number
 abbrev pub access_number : Module → Access → ℕ
-access_number m (Read n) = outcome_number (read_call m n).outcome
+access_number m (Read n) = outcome_number (outcome_of (read_call m n))
 access_number m (Write n v) = outcome_number (write_call m n v).outcome
 
 pub access_outcome : (m : Module) (a : Access) → access_number m a ≡ first_of (access_causes a)
@@ -323,6 +323,6 @@ unfolding accessed write_call bus_write
 access_refused m (Read n) h = refl
 access_refused m (Write n v) h = by (ltb 17 n) (λ q. rw q) (λ q. by (ltb n 16) (λ r. rw (q, r)) (λ r. absurd (h (rw (q, r)))))
 
-pub read_refused : (m : Module) (n : ℕ) → (access_number m (Read n) ≡ 0 → ⊥) → (read_call m n).value ≡ 0
+pub read_refused : (m : Module) (n : ℕ) → (access_number m (Read n) ≡ 0 → ⊥) → byte_shown (read_call m n) ≡ 0
 unfolding read_call byte_read
 read_refused m n h = by (ltb 17 n) (λ q. rw q) (λ q. absurd (h (rw q)))

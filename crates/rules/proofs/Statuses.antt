@@ -9,7 +9,8 @@ use Rattle.rules.specs.declared.Module.{Module}
 use Rattle.rules.specs.declared.FileCycle.{FileCycle}
 use Rattle.rules.specs.declared.FileCycle.TheVariants.{SetupCycle, GroupCycle, LimitCycle}
 use Rattle.rules.specs.Words.{digit, bytes_of, stored_at}
-use Rattle.rules.specs.Cycle.{outcome_number}
+use Rattle.rules.specs.Cycle.{outcome_number, outcome_of}
+use Rattle.rules.specs.Bus.{byte_shown}
 use Rattle.rules.specs.Calls.{Read, Write, Call, Step, FileCall, NudgeCall, ByteCall}
 use Rattle.rules.specs.Card.{fresh_module, file_call, file_left, nudge_call, read_call, write_call, line_level}
 use Rattle.rules.specs.Run.{module_after}
@@ -115,7 +116,7 @@ accesses x [] = []
 accesses x (Step s ∷ calls) = accesses (module_after x (Step s)) calls
 accesses x (FileCall kind file ∷ calls) = accesses (module_after x (FileCall kind file)) calls
 accesses x (NudgeCall w ∷ calls) = accesses (module_after x (NudgeCall w)) calls
-accesses x (ByteCall (Read n) ∷ calls) = (outcome_number (read_call x n).outcome, (read_call x n).value) ∷ accesses x calls
+accesses x (ByteCall (Read n) ∷ calls) = (outcome_number (outcome_of (read_call x n)), byte_shown (read_call x n)) ∷ accesses x calls
 accesses x (ByteCall (Write n v) ∷ calls) =
     (outcome_number (write_call x n v).outcome, digit (line_level (module_after x (ByteCall (Write n v))))) ∷ accesses (module_after x (ByteCall (Write n v))) calls
 

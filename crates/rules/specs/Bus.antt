@@ -1,15 +1,13 @@
 -- 02, "The rack bus": the input table as bytes, the interrupt request, its mask and the line. "02" is the document of requests, in all files. No past.
 -- Assumes nothing.
-use Rattle.std.specs.Prelude.{ℕ, Bool, false, cond, not, ◌&&◌, ◌||◌, List, [], ◌∷◌, ltb, eqb}
+use Rattle.std.specs.Prelude.{ℕ, Bool, false, cond, Result, Ok, Err, not, ◌&&◌, ◌||◌, List, [], ◌∷◌, ltb, eqb}
 use Rattle.rules.specs.declared.Configuration.{Configuration}
 use Rattle.rules.specs.declared.Shown.{Shown}
 use Rattle.rules.specs.declared.Bus.{Bus}
 use Rattle.rules.specs.declared.Kept.{Kept}
+use Rattle.rules.specs.declared.Refusal.{Refusal}
 use Rattle.rules.specs.declared.Refusal.TheVariants.{ByteOffset, ReadOnlyByte}
-use Rattle.rules.specs.declared.Outcome.TheVariants.{Accepted, Refused}
 use Rattle.rules.specs.declared.Answer.{Answer}
-use Rattle.rules.specs.declared.ByteRead.{ByteRead}
-use Rattle.rules.specs.declared.BusResult.{BusResult}
 use Rattle.rules.specs.Words.{word, bit, digit, bits, bytes_of}
 
 -- ---- What a step shows
@@ -80,9 +78,14 @@ mask_byte = 17
 unfoldable pub byte_at : Configuration → Kept → ℕ → ℕ
 byte_at g x n = cond (ltb n table_bytes) (table_byte g x.shown n) (digit (cond (eqb n request_byte) x.bus.request x.bus.mask))
 
--- "13 for an offset over 17, first"; a refused read hands back 0
-unfoldable pub byte_read : Configuration → Kept → ℕ → ByteRead
-byte_read g x n = cond (ltb mask_byte n) (record { outcome = Refused ByteOffset; value = 0 }) (record { outcome = Accepted; value = byte_at g x n })
+-- "13 for an offset over 17, first"
+unfoldable pub byte_read : Configuration → Kept → ℕ → Result ℕ Refusal
+byte_read g x n = cond (ltb mask_byte n) (Err ByteOffset) (Ok (byte_at g x n))
+
+-- a refused read hands back 0
+abbrev pub byte_shown : Result ℕ Refusal → ℕ
+byte_shown (Ok value) = value
+byte_shown (Err why) = 0
 
 -- the request "stays until a 1 is written to that bit"; the mask is the bit written last
 unfoldable pub stored : Bus → ℕ → ℕ → Bus
@@ -92,8 +95,10 @@ stored b n v =
     (record { request = b.request; mask = bit v 0 })
 
 -- "Turned away: 13 for an offset over 17, first; 14 for a write below 16. Neither changes a byte."
-unfoldable pub bus_write : Bus → ℕ → ℕ → BusResult
-bus_write b n v =
-    cond (ltb mask_byte n) (record { bus = b; outcome = Refused ByteOffset })
-    (cond (ltb n table_bytes) (record { bus = b; outcome = Refused ReadOnlyByte })
-    (record { bus = stored b n v; outcome = Accepted }))
+unfoldable pub bus_write : Bus → ℕ → ℕ → Result Bus Refusal
+bus_write b n v = cond (ltb mask_byte n) (Err ByteOffset) (cond (ltb n table_bytes) (Err ReadOnlyByte) (Ok (stored b n v)))
+
+-- the request and the mask that a write leaves
+abbrev pub bus_left : Bus → Result Bus Refusal → Bus
+bus_left b (Ok after) = after
+bus_left b (Err why) = b

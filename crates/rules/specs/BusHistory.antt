@@ -8,7 +8,7 @@ use Rattle.rules.specs.declared.Bus.{Bus}
 use Rattle.rules.specs.declared.Kept.{Kept}
 use Rattle.rules.specs.Words.{bit}
 use Rattle.rules.specs.Motion.{real_inputs}
-use Rattle.rules.specs.Cycle.{with_ignored}
+use Rattle.rules.specs.Cycle.{outcome_of, with_ignored}
 use Rattle.rules.specs.FileCycle.{file_cycle, file_after}
 use Rattle.rules.specs.Nudge.{nudge_cycle}
 use Rattle.rules.specs.Bus.{shown_by, nothing_shown, table_byte, request_byte, mask_byte, byte_read, bus_write}
@@ -86,7 +86,7 @@ expected_reply model l (FileCall kind file) =
     Cycled (file_cycle kind (configuration_of model l) file).outcome (file_after kind (configuration_of model l) (left_positions model l) file)
 expected_reply model l (NudgeCall w) = Cycled (nudge_cycle (configuration_of model l) w).outcome []
 expected_reply model l (ByteCall (Read n)) = Showed (byte_read (shown_configuration model l) (kept_told model l) n)
-expected_reply model l (ByteCall (Write n v)) = Written (bus_write (bus_told model l) n v).outcome
+expected_reply model l (ByteCall (Write n v)) = Written (outcome_of (bus_write (bus_told model l) n v))
 
 -- what the calls of a list in the order of time answer; `past` are the calls before it, the latest first
 unfoldable pub expected_replies : Model → List Call → List Call → List Reply

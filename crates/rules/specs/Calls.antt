@@ -1,6 +1,6 @@
 -- Power-up, the calls that a card gets, and what each call's arguments do to the configuration. No past, no state.
 -- Assumes nothing.
-use Rattle.std.specs.Prelude.{ℕ, Bool, true, false, cond, not, ◌&&◌, List, leb}
+use Rattle.std.specs.Prelude.{ℕ, Bool, true, false, cond, Result, not, ◌&&◌, List, leb}
 use Rattle.rules.specs.declared.Model.{Model}
 use Rattle.rules.specs.declared.Setup.{Setup}
 use Rattle.rules.specs.declared.Configuration.{Configuration}
@@ -8,7 +8,7 @@ use Rattle.rules.specs.declared.Sample.{Sample}
 use Rattle.rules.specs.declared.FileCycle.{FileCycle}
 use Rattle.rules.specs.declared.Outcome.{Outcome}
 use Rattle.rules.specs.declared.Answer.{Answer}
-use Rattle.rules.specs.declared.ByteRead.{ByteRead}
+use Rattle.rules.specs.declared.Refusal.{Refusal}
 use Rattle.rules.specs.Variants.{model_number}
 use Rattle.rules.specs.Cycle.{no_acknowledges, with_fault, with_raw}
 use Rattle.rules.specs.SetupWords.{no_programs}
@@ -74,12 +74,12 @@ pub data Call : Type 0 where
   NudgeCall : ℕ → Call
   ByteCall : Access → Call
 
--- What a call answers: a step its answer; a cycle its outcome and what its file then holds, nothing for a nudge, which has none; a byte read its outcome and
--- the byte; a byte write its outcome.
+-- What a call answers: a step its answer; a cycle its outcome and what its file then holds, nothing for a nudge, which has none; a byte read the
+-- byte or its refusal; a byte write its outcome.
 pub data Reply : Type 0 where
   Stepped : Answer → Reply
   Cycled : Outcome → List ℕ → Reply
-  Showed : ByteRead → Reply
+  Showed : Result ℕ Refusal → Reply
   Written : Outcome → Reply
 
 unfoldable pub configuration_after : Configuration → Call → Configuration

@@ -1,6 +1,6 @@
 -- The state machine: what each call does to a module, its answer and its file. The contracts of the public calls cite it.
 -- Assumes nothing.
-use Rattle.std.specs.Prelude.{ℕ, ◌+◌, ◌-◌, ◌%◌, ◌^◌, Bool, true, false, cond, not, ◌&&◌, ◌||◌, List, get_or, replicate, ltb, leb, pos, ◌+ℤ◌}
+use Rattle.std.specs.Prelude.{ℕ, ◌+◌, ◌-◌, ◌%◌, ◌^◌, Bool, true, false, cond, Result, Ok, Err, not, ◌&&◌, ◌||◌, List, get_or, replicate, ltb, leb, pos, ◌+ℤ◌}
 use Rattle.std.proofs.Math.IntN.{sub_ℕ}
 use Rattle.rules.specs.declared.MachinePosition.{MachinePosition}
 use Rattle.rules.specs.declared.GroupPosition.{GroupPosition}
@@ -29,6 +29,7 @@ use Rattle.rules.specs.declared.Conditions.{Conditions}
 use Rattle.rules.specs.declared.Event.{Event}
 use Rattle.rules.specs.declared.FileCycle.{FileCycle}
 use Rattle.rules.specs.declared.FileCycle.TheVariants.{SetupCycle, GroupCycle, LimitCycle}
+use Rattle.rules.specs.declared.Refusal.{Refusal}
 use Rattle.rules.specs.declared.Refusal.TheVariants.{UnknownModule}
 use Rattle.rules.specs.declared.Outcome.TheVariants.{Accepted, Refused}
 use Rattle.rules.specs.declared.Decision.{Decision}
@@ -36,16 +37,15 @@ use Rattle.rules.specs.declared.CycleResult.{CycleResult}
 use Rattle.rules.specs.declared.OutputWords.{OutputWords}
 use Rattle.rules.specs.declared.Answer.{Answer}
 use Rattle.rules.specs.declared.StepResult.{StepResult}
-use Rattle.rules.specs.declared.ByteRead.{ByteRead}
 use Rattle.rules.specs.Words.{table, modulo}
 use Rattle.rules.specs.Variants.{model_known, model_of, model_in, group_mode, limit_switch}
 use Rattle.rules.specs.Motion.{turned, window_steps, short_steps, rpm_of, unbiased, biased_c, conditions, fault_conditions, real_inputs, scale}
 use Rattle.rules.specs.Groups.{no_group, dwell_holds, group_position, preset_shift, presets, edge, stops, running, is_open, group_event, of_group, no_position}
 use Rattle.rules.specs.Switches.{timed_steps, limit_of, owner_of, rule_at, timed_holds, output_words, answer_of}
-use Rattle.rules.specs.Cycle.{is_accepted}
+use Rattle.rules.specs.Cycle.{outcome_of, is_accepted}
 use Rattle.rules.specs.FileCycle.{file_cycle, file_after}
 use Rattle.rules.specs.Nudge.{nudge_cycle}
-use Rattle.rules.specs.Bus.{shown_by, nothing_shown, requested, fresh_bus, line_of, byte_read, bus_write}
+use Rattle.rules.specs.Bus.{shown_by, nothing_shown, requested, fresh_bus, line_of, byte_read, bus_write, bus_left}
 use Rattle.rules.specs.Calls.{fresh_configuration, sound, step_configuration}
 
 -- ---- Speed
@@ -260,7 +260,11 @@ unfoldable pub fresh_module : Model → Module
 fresh_module model =
     record { configuration = fresh_configuration model; state = record { since = module_start; kept = record { shown = nothing_shown; bus = fresh_bus } } }
 
--- power-up of the place that holds m; 3 "gives no module", and the place stays as it was
+-- "Power-up takes 8511, 8512 or 8513": a module, or refusal 3, which "gives no module"
+unfoldable pub powered : ℕ → Result Module Refusal
+powered n = cond (model_known n) (Ok (fresh_module (model_of n))) (Err UnknownModule)
+
+-- power-up of the place that holds m; after refusal 3 the place stays as it was
 unfoldable pub powered_up : Module → ℕ → CycleResult
 powered_up m n =
     cond (model_known n)
@@ -313,7 +317,7 @@ step_call m s = record {
 }
 
 -- the byte accesses; "Reads change nothing.", and a write nothing but the request and the mask
-unfoldable pub read_call : Module → ℕ → ByteRead
+unfoldable pub read_call : Module → ℕ → Result ℕ Refusal
 read_call m n = byte_read m.configuration m.state.kept n
 
 abbrev pub with_bus : Module → Bus → Module
@@ -321,7 +325,8 @@ with_bus m b =
     record { configuration = m.configuration; state = record { since = m.state.since; kept = record { shown = m.state.kept.shown; bus = b } } }
 
 unfoldable pub write_call : Module → ℕ → ℕ → CycleResult
-write_call m n v = record { card = with_bus m (bus_write m.state.kept.bus n v).bus; outcome = (bus_write m.state.kept.bus n v).outcome }
+write_call m n v =
+    record { card = with_bus m (bus_left m.state.kept.bus (bus_write m.state.kept.bus n v)); outcome = outcome_of (bus_write m.state.kept.bus n v) }
 
 -- the line's level
 unfoldable pub line_level : Module → Bool

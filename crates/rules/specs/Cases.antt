@@ -30,13 +30,13 @@ use Rattle.rules.specs.Counts.{ahead, holds}
 use Rattle.rules.specs.Motion.{real_input, turned, scaled_position, machine_position, window_steps, tach_shown, tach_overflow, rpm_of, detects, conditions, fault_conditions, biased_c}
 use Rattle.rules.specs.Groups.{group_position, group_event, is_open}
 use Rattle.rules.specs.Switches.{moved, pair_length, pair_holds, normal_holds, pulse_holds, present, admitted, enable_holds, detector_holds, output_words, changed_count, answer_of}
-use Rattle.rules.specs.Cycle.{number_of, outcome_number, with_programming, error_of}
+use Rattle.rules.specs.Cycle.{number_of, outcome_number, outcome_of, with_programming, error_of}
 use Rattle.rules.specs.SetupWords.{setup_errors, setup_of, no_programs}
 use Rattle.rules.specs.GroupWords.{group_of, owners_of, failing_group, group_errors}
 use Rattle.rules.specs.LimitWords.{all_zero, limit_of_block, pulse_bad, pulses_touch, touch_bad, block_bits, limit_from, fifth_timed, limit_bits, failing_limit, limit_errors, with_limits}
 use Rattle.rules.specs.Nudge.{nudge_output, nudge_pair, nudge_output_bad, nudge_setpoint_bad, nudged_limit}
 use Rattle.rules.specs.Reader.{reader_refusal, reader_part}
-use Rattle.rules.specs.Bus.{shown_by, nothing_shown, status_bits, requested, line_of, byte_at, byte_read, bus_write}
+use Rattle.rules.specs.Bus.{shown_by, nothing_shown, status_bits, requested, line_of, byte_at, byte_read, byte_shown, bus_write, bus_left}
 use Rattle.rules.specs.Calls.{fresh_configuration}
 use Rattle.rules.specs.FileCycle.{command_at}
 use Rattle.rules.specs.Card.{group_after, fresh_group}
@@ -576,7 +576,7 @@ bus_bits b = b.request ∷ b.mask ∷ []
 
 -- request and mask after a byte write at an offset, where they were as given
 unfoldable pub write_bits : Bool → Bool → ℕ → ℕ → List Bool
-write_bits request mask n v = bus_bits (bus_write (record { request = request; mask = mask }) n v).bus
+write_bits request mask n v = bus_bits (bus_left (record { request = request; mask = mask }) (bus_write (record { request = request; mask = mask }) n v))
 
 unfoldable pub of_bus : List Case
 of_bus =
@@ -591,10 +591,10 @@ of_bus =
     -- "0 before the first"
     ∷ numbers (table 16 0 (byte_at (flags (λ k. false)) (record { shown = nothing_shown; bus = record { request = true; mask = true } }))) (replicate 16 0)
     -- "13 for an offset over 17, first"
-    ∷ numbers (map (λ (n : ℕ). outcome_number (byte_read (flags (λ k. true)) (record { shown = nothing_shown; bus = record { request = true; mask = true } }) n).outcome) (0 ∷ 15 ∷ 16 ∷ 17 ∷ 18 ∷ 255 ∷ 65535 ∷ [])) (0 ∷ 0 ∷ 0 ∷ 0 ∷ 13 ∷ 13 ∷ 13 ∷ [])
-    ∷ numbers (map (λ (n : ℕ). (byte_read (flags (λ k. true)) (record { shown = nothing_shown; bus = record { request = true; mask = true } }) n).value) (0 ∷ 15 ∷ 16 ∷ 17 ∷ 18 ∷ 65535 ∷ [])) (0xbf ∷ 0 ∷ 1 ∷ 1 ∷ 0 ∷ 0 ∷ [])
+    ∷ numbers (map (λ (n : ℕ). outcome_number (outcome_of (byte_read (flags (λ k. true)) (record { shown = nothing_shown; bus = record { request = true; mask = true } }) n))) (0 ∷ 15 ∷ 16 ∷ 17 ∷ 18 ∷ 255 ∷ 65535 ∷ [])) (0 ∷ 0 ∷ 0 ∷ 0 ∷ 13 ∷ 13 ∷ 13 ∷ [])
+    ∷ numbers (map (λ (n : ℕ). byte_shown (byte_read (flags (λ k. true)) (record { shown = nothing_shown; bus = record { request = true; mask = true } }) n)) (0 ∷ 15 ∷ 16 ∷ 17 ∷ 18 ∷ 65535 ∷ [])) (0xbf ∷ 0 ∷ 1 ∷ 1 ∷ 0 ∷ 0 ∷ [])
     -- "14 for a write below 16"
-    ∷ numbers (map (λ (n : ℕ). outcome_number (bus_write (record { request = true; mask = false }) n 1).outcome) (0 ∷ 15 ∷ 16 ∷ 17 ∷ 18 ∷ 65535 ∷ [])) (14 ∷ 14 ∷ 0 ∷ 0 ∷ 13 ∷ 13 ∷ [])
+    ∷ numbers (map (λ (n : ℕ). outcome_number (outcome_of (bus_write (record { request = true; mask = false }) n 1))) (0 ∷ 15 ∷ 16 ∷ 17 ∷ 18 ∷ 65535 ∷ [])) (14 ∷ 14 ∷ 0 ∷ 0 ∷ 13 ∷ 13 ∷ [])
     -- "Neither changes a byte."
     ∷ tests (write_bits true false 15 1 ++ write_bits true false 18 1 ++ write_bits true true 15 0 ++ write_bits true true 18 0) (true ∷ false ∷ true ∷ false ∷ true ∷ true ∷ true ∷ true ∷ [])
     -- byte 16: "stays until a 1 is written to that bit"; the bits 7 to 1 are ignored

@@ -1,6 +1,6 @@
 -- 01, "Who brings a refusal on" and the programming cycle: refusals and their numbers, transmit and acknowledge, ClrErr, errors, the decision. No past.
 -- Assumes nothing.
-use Rattle.std.specs.Prelude.{ℕ, Bool, true, false, cond, not, ◌&&◌, ◌||◌, eqb}
+use Rattle.std.specs.Prelude.{ℕ, Bool, true, false, cond, Result, Ok, Err, not, ◌&&◌, ◌||◌, eqb}
 use Rattle.rules.specs.declared.Programming.{Programming}
 use Rattle.rules.specs.declared.Errors.{Errors}
 use Rattle.rules.specs.declared.Acknowledges.{Acknowledges}
@@ -39,6 +39,11 @@ abbrev pub outcome_number : Outcome → ℕ
 outcome_number Idle = 65535
 outcome_number Accepted = 0
 outcome_number (Refused r) = number_of r
+
+-- the outcome of a call that is accepted with a value or refused
+abbrev pub outcome_of : {A : Type 0} → Result A Refusal → Outcome
+outcome_of (Ok a) = Accepted
+outcome_of (Err why) = Refused why
 
 abbrev pub is_accepted : Outcome → Bool
 is_accepted Idle = false

@@ -3,9 +3,9 @@
 // specs/; the only code here is that, the numbers of refusals, and power-up.
 #![tactic(auto)]
 
-pub mod numbers;
+mod numbers;
 mod power_up;
-pub mod variants;
+mod variants;
 
 ghost use Rattle.std.specs.Prelude.{◌≡◌};
 ghost use Rattle.rules.specs.SetupWords.{no_programs};
@@ -13,16 +13,16 @@ ghost use Rattle.rules.specs.Card.{module_start};
 
 // Machine Position, in counts of a turn.
 #[repr(C)]
-#[derive(Clone, Copy)]
+#[derive(Clone, Copy, Debug, PartialEq, Eq)]
 pub struct MachinePosition(pub u16);
 
 // Group Position, in counts of a turn.
 #[repr(C)]
-#[derive(Clone, Copy)]
+#[derive(Clone, Copy, Debug, PartialEq, Eq)]
 pub struct GroupPosition(pub u16);
 
 // The position that a switch reads: Group Position in Group Mode, Machine Position in Independent Mode.
-#[derive(Clone, Copy)]
+#[derive(Clone, Copy, Debug, PartialEq, Eq)]
 pub enum Position {
     OfMachine(MachinePosition),
     OfGroup(GroupPosition),
@@ -30,7 +30,7 @@ pub enum Position {
 
 // The module: an 8511 has no real inputs and outputs, an 8512 eight, an 8513 sixteen; all have sixteen virtual ones. NoModule, which any other number
 // reads as, has none of either.
-#[derive(Clone, Copy)]
+#[derive(Clone, Copy, Debug, PartialEq, Eq)]
 pub enum Model {
     NoModule,
     M8511,
@@ -39,14 +39,14 @@ pub enum Model {
 }
 
 // The type of an input or output.
-#[derive(Clone, Copy)]
+#[derive(Clone, Copy, Debug, PartialEq, Eq)]
 pub enum IoType {
     Real,
     Virtual,
 }
 
 // The tachometer's decimal code.
-#[derive(Clone, Copy)]
+#[derive(Clone, Copy, Debug, PartialEq, Eq)]
 pub enum DecimalCode {
     Code0,
     Code1,
@@ -55,7 +55,7 @@ pub enum DecimalCode {
 }
 
 // A group's operating mode. NoMode, which any other number reads as, is never open.
-#[derive(Clone, Copy)]
+#[derive(Clone, Copy, Debug, PartialEq, Eq)]
 pub enum Mode {
     NoMode,
     Mode0,
@@ -122,7 +122,7 @@ pub struct Group {
 }
 
 // The type of a limit switch: Pulse with the quantity Q and the ON count K, Timed with the duration T.
-#[derive(Clone, Copy)]
+#[derive(Clone, Copy, Debug, PartialEq, Eq)]
 pub enum Switch {
     Unprogrammed,
     Normal,
@@ -142,7 +142,7 @@ pub struct Action {
 }
 
 // The motion detector that an output is ANDed with. Never, which a number over 2 reads as, never holds.
-#[derive(Clone, Copy)]
+#[derive(Clone, Copy, Debug, PartialEq, Eq)]
 pub enum Anded {
     Never,
     Neither,
@@ -363,7 +363,7 @@ pub struct Event {
 }
 
 // The programming cycles that take a file.
-#[derive(Clone, Copy)]
+#[derive(Clone, Copy, Debug, PartialEq, Eq)]
 pub enum FileCycle {
     SetupCycle,
     GroupCycle,
@@ -371,14 +371,14 @@ pub enum FileCycle {
 }
 
 // The programming cycles.
-#[derive(Clone, Copy)]
+#[derive(Clone, Copy, Debug, PartialEq, Eq)]
 pub enum Cycle {
     OfFile(FileCycle),
     NudgeCycle,
 }
 
 // Why a call is refused; `numbers` gives each its number.
-#[derive(Clone, Copy)]
+#[derive(Clone, Copy, Debug, PartialEq, Eq)]
 pub enum Refusal {
     M0Length,
     M1Length,
@@ -396,7 +396,7 @@ pub enum Refusal {
     ReadOnlyByte,
 }
 
-#[derive(Clone, Copy)]
+#[derive(Clone, Copy, Debug, PartialEq, Eq)]
 pub enum Outcome {
     Idle,
     Accepted,
@@ -414,20 +414,6 @@ pub struct Decision {
 #[derive(Clone, Copy)]
 pub struct CycleResult {
     pub card: Module,
-    pub outcome: Outcome,
-}
-
-// What a byte read answers.
-#[derive(Clone, Copy)]
-pub struct ByteRead {
-    pub outcome: Outcome,
-    pub value: u8,
-}
-
-// What a byte write answers, with the request and the mask after.
-#[derive(Clone, Copy)]
-pub struct BusResult {
-    pub bus: Bus,
     pub outcome: Outcome,
 }
 

@@ -2,9 +2,8 @@
 
 ghost use Rattle.std.specs.Prelude.{◌≡◌};
 ghost use Rattle.rules.specs.Calls.{default_setup};
-ghost use Rattle.rules.specs.Card.{fresh_module, powered_up};
+ghost use Rattle.rules.specs.Card.{fresh_module, powered, powered_up};
 
-use crate::variants::{model_known, model_number, model_of};
 use crate::{
     Acknowledges, Bus, Configuration, CycleResult, Detector, Errors, Kept, Model, Module, Outcome,
     Programming, Refusal, Scalars, Setup, Shown, SinceStart, State,
@@ -75,14 +74,15 @@ impl Module {
     pub fn fresh(model: Model) -> Module
         ensures { result ≡ fresh_module model }
     {
-        let u = Module::default_setup();
-        let mut errors = Errors::NONE;
-        errors.setup = true;
+        let errors = Errors {
+            setup: true,
+            ..Errors::NONE
+        };
         Module {
             configuration: Configuration {
-                model: model_number(model),
-                programming: Programming::none(u),
-                errors: errors,
+                model: u16::from(model),
+                programming: Programming::none(Module::default_setup()),
+                errors,
                 acknowledges: Acknowledges::NONE,
                 ignored: false,
                 fault: false,
@@ -98,21 +98,31 @@ impl Module {
         }
     }
 
+    // A fresh module of a number; 3 gives none.
+    #[tactic(auto, unfolding(crate::specs::Card::powered, crate::specs::Variants::model_known, crate::specs::Variants::model_of))]
+    pub fn new(number: u16) -> Result<Module, Refusal>
+        ensures { result ≡ powered number }
+    {
+        match Model::from(number) {
+            Model::NoModule => Err(Refusal::UnknownModule),
+            model => Ok(Module::fresh(model)),
+        }
+    }
+
     // Power-up of the place that holds m. A number that is no module's is refused with 3, and the place stays as it was.
-    #[tactic(auto, unfolding(crate::specs::Card::powered_up))]
+    #[tactic(auto, unfolding(crate::specs::Card::powered_up, crate::specs::Card::powered))]
     pub fn power_up(m: Module, number: u16) -> CycleResult
         ensures { result ≡ powered_up m number }
     {
-        let card = Module::fresh(model_of(number));
-        if model_known(number) {
-            return CycleResult {
-                card: card,
+        match Module::new(number) {
+            Ok(card) => CycleResult {
+                card,
                 outcome: Outcome::Accepted,
-            };
-        }
-        CycleResult {
-            card: m,
-            outcome: Outcome::Refused(Refusal::UnknownModule),
+            },
+            Err(why) => CycleResult {
+                card: m,
+                outcome: Outcome::Refused(why),
+            },
         }
     }
 }

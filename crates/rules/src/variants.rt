@@ -5,127 +5,113 @@ ghost use Rattle.rules.specs.Variants as variants;
 
 use crate::{Action, Anded, DecimalCode, IoType, Mode, Model, Switch};
 
-// A number is a module's.
-#[tactic(auto, unfolding(crate::specs::Variants::model_known))]
-pub fn model_known(n: u16) -> bool
-    ensures { result ≡ variants.model_known n }
-{
-    match n {
-        8511 => true,
-        8512 => true,
-        8513 => true,
-        _ => false,
+impl From<u16> for Model {
+    ghost from_gives = { λ n r. r ≡ variants.model_of n };
+
+    #[tactic(auto, unfolding(crate::specs::Variants::model_of))]
+    fn from(n: u16) -> Model {
+        match n {
+            8511 => Model::M8511,
+            8512 => Model::M8512,
+            8513 => Model::M8513,
+            _ => Model::NoModule,
+        }
     }
 }
 
-#[tactic(auto, unfolding(crate::specs::Variants::model_of))]
-pub fn model_of(n: u16) -> Model
-    ensures { result ≡ variants.model_of n }
-{
-    match n {
-        8511 => Model::M8511,
-        8512 => Model::M8512,
-        8513 => Model::M8513,
-        _ => Model::NoModule,
+impl From<Model> for u16 {
+    ghost from_gives = { λ m r. r ≡ variants.model_number m };
+
+    #[tactic(auto, unfolding(crate::specs::Variants::model_number))]
+    fn from(m: Model) -> u16 {
+        match m {
+            Model::NoModule => 0,
+            Model::M8511 => 8511,
+            Model::M8512 => 8512,
+            Model::M8513 => 8513,
+        }
     }
 }
 
-#[tactic(auto, unfolding(crate::specs::Variants::model_number))]
-pub fn model_number(m: Model) -> u16
-    ensures { result ≡ variants.model_number m }
-{
-    match m {
-        Model::NoModule => 0,
-        Model::M8511 => 8511,
-        Model::M8512 => 8512,
-        Model::M8513 => 8513,
+impl Model {
+    // Its inputs of a type, and its outputs of the same type.
+    #[tactic(auto, unfolding(crate::specs::Variants::real_count, crate::specs::Variants::virtual_count, crate::specs::Variants::io_count))]
+    pub fn count(self, kind: IoType) -> u16
+        ensures { result ≡ variants.io_count self kind }
+    {
+        match (self, kind) {
+            (Model::NoModule, _) | (Model::M8511, IoType::Real) => 0,
+            (Model::M8512, IoType::Real) => 8,
+            (Model::M8513, IoType::Real) => 16,
+            (Model::M8511 | Model::M8512 | Model::M8513, IoType::Virtual) => 16,
+        }
     }
 }
 
-// Its real inputs, and its real outputs.
-#[tactic(auto, unfolding(crate::specs::Variants::real_count))]
-pub fn real_count(m: Model) -> u16
-    ensures { result ≡ variants.real_count m }
-{
-    match m {
-        Model::NoModule => 0,
-        Model::M8511 => 0,
-        Model::M8512 => 8,
-        Model::M8513 => 16,
-    }
-}
+impl From<u16> for DecimalCode {
+    ghost from_gives = { λ n r. r ≡ variants.code_of n };
 
-// Its virtual inputs, and its virtual outputs.
-#[tactic(auto, unfolding(crate::specs::Variants::virtual_count))]
-pub fn virtual_count(m: Model) -> u16
-    ensures { result ≡ variants.virtual_count m }
-{
-    match m {
-        Model::NoModule => 0,
-        Model::M8511 => 16,
-        Model::M8512 => 16,
-        Model::M8513 => 16,
-    }
-}
-
-#[tactic(auto, unfolding(crate::specs::Variants::code_of))]
-pub fn code_of(n: u16) -> DecimalCode
-    ensures { result ≡ variants.code_of n }
-{
-    match n {
-        0 => DecimalCode::Code0,
-        1 => DecimalCode::Code1,
-        2 => DecimalCode::Code2,
-        _ => DecimalCode::Code3,
+    #[tactic(auto, unfolding(crate::specs::Variants::code_of))]
+    fn from(n: u16) -> DecimalCode {
+        match n {
+            0 => DecimalCode::Code0,
+            1 => DecimalCode::Code1,
+            2 => DecimalCode::Code2,
+            _ => DecimalCode::Code3,
+        }
     }
 }
 
 // GPTyp and FCITyp: set for virtual.
-pub fn type_of(set: bool) -> IoType
-    ensures { result ≡ variants.io_type_of set }
-{
-    if set {
-        return IoType::Virtual;
-    }
-    IoType::Real
-}
+impl From<bool> for IoType {
+    ghost from_gives = { λ set r. r ≡ variants.io_type_of set };
 
-#[tactic(auto, unfolding(crate::specs::Variants::mode_of))]
-pub fn mode_of(n: u16) -> Mode
-    ensures { result ≡ variants.mode_of n }
-{
-    match n {
-        0 => Mode::Mode0,
-        1 => Mode::Mode1,
-        2 => Mode::Mode2,
-        3 => Mode::Mode3,
-        4 => Mode::Mode4,
-        5 => Mode::Mode5,
-        _ => Mode::NoMode,
+    fn from(set: bool) -> IoType {
+        if set { IoType::Virtual } else { IoType::Real }
     }
 }
 
-#[tactic(auto, unfolding(crate::specs::Variants::switch_of))]
-pub fn switch_of(a: Action) -> Switch
-    ensures { result ≡ variants.switch_of a }
-{
-    let kind = a.kind;
-    match kind {
-        1 => Switch::Normal,
-        2 => Switch::Pulse(a.quantity, a.count),
-        3 => Switch::Timed(a.duration),
-        _ => Switch::Unprogrammed,
+impl From<u16> for Mode {
+    ghost from_gives = { λ n r. r ≡ variants.mode_of n };
+
+    #[tactic(auto, unfolding(crate::specs::Variants::mode_of))]
+    fn from(n: u16) -> Mode {
+        match n {
+            0 => Mode::Mode0,
+            1 => Mode::Mode1,
+            2 => Mode::Mode2,
+            3 => Mode::Mode3,
+            4 => Mode::Mode4,
+            5 => Mode::Mode5,
+            _ => Mode::NoMode,
+        }
     }
 }
 
-#[tactic(auto, unfolding(crate::specs::Variants::anded_of))]
-pub fn anded_of(n: u16) -> Anded
-    ensures { result ≡ variants.anded_of n }
-{
-    match n {
-        0 => Anded::Neither,
-        1 => Anded::First,
-        2 => Anded::Second,
-        _ => Anded::Never,
+impl From<Action> for Switch {
+    ghost from_gives = { λ a r. r ≡ variants.switch_of a };
+
+    #[tactic(auto, unfolding(crate::specs::Variants::switch_of))]
+    fn from(a: Action) -> Switch {
+        match a.kind {
+            1 => Switch::Normal,
+            2 => Switch::Pulse(a.quantity, a.count),
+            3 => Switch::Timed(a.duration),
+            _ => Switch::Unprogrammed,
+        }
+    }
+}
+
+impl From<u16> for Anded {
+    ghost from_gives = { λ n r. r ≡ variants.anded_of n };
+
+    #[tactic(auto, unfolding(crate::specs::Variants::anded_of))]
+    fn from(n: u16) -> Anded {
+        match n {
+            0 => Anded::Neither,
+            1 => Anded::First,
+            2 => Anded::Second,
+            _ => Anded::Never,
+        }
     }
 }

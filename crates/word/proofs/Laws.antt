@@ -11,6 +11,8 @@ use lib.Dec.{eqb, eqb-suc-zero}
 use lib.ListN.{length, get_or, take, set}
 use lib.Pow.{pow_mono}
 use borrow.Author.Tests.{eq-eqb, ne_eqb}
+use Rattle.std.proofs.Common.{inl, inr}
+use Rattle.std.proofs.lemmas.Bool.{cases_eq}
 use lib.Bits.{bit_and, bit_or, bit_xor, and_step, or_step, xor_step, and_shr, or_shr, xor_shr, and_le_l, differ}
 use lib.Count.{ones, ones_step}
 use mir.Val.{bool_byte}
@@ -213,6 +215,22 @@ lowest_turn n left f h k =
     let e : n - (left - 1) ≡ suc (n - left) = omega arith in
     let j : left - 1 + 1 ≡ left = omega arith in
     rw (e, j)
+
+-- the lowest number with f, where no lower one has it; 0 where none has
+pub lowest_found : (n i k : ℕ) (f : ℕ → Bool) → i ≤ k → k < i + n → ((j : ℕ) → i ≤ j → j < k → f j ≡ false) → f k ≡ true → lowest_of n i f ≡ k
+unfolding lowest_of
+lowest_found zero i k f a b h e = absurd (omega arith)
+lowest_found (suc n) i k f a b h e =
+    elim (cases_eq i k) [
+      | inl s ↦ rw (rw (← s) at e) s
+      | inr d ↦ rw (h i (omega arith) (omega arith)) (lowest_found n (i + 1) k f (omega arith) (omega arith) (λ j c g. h j (omega arith) g) e)
+    ]
+
+pub lowest_none : (n i : ℕ) (f : ℕ → Bool) → ((j : ℕ) → i ≤ j → j < i + n → f j ≡ false) → lowest_of n i f ≡ 0
+unfolding lowest_of
+lowest_none zero i f h = refl
+lowest_none (suc n) i f h =
+    rw (h i (omega arith) (omega arith)) (lowest_none n (i + 1) f (λ j a b. h j (omega arith) (omega arith)))
 
 -- ---- Words stored into a file
 

@@ -5,8 +5,12 @@ ghost use Rattle.std.specs.Prelude.{◌≡◌, [], ◌∷◌, not, cond, ◌+◌
 ghost use Rattle.rules.specs.Words as words;
 ghost use Rattle.word.specs.Layout.{named};
 
+mod failing;
+
+pub use failing::{Blocks, Failing, lowest_failing};
+
 // A word in which 01 names some bits and the others are reserved: the setup, group and limit commands, a group's and a limit switch's control word.
-#[derive(Clone, Copy)]
+#[derive(Clone, Copy, Debug, PartialEq, Eq)]
 pub enum Layout {
     SetupCommand,
     GroupCommand,
@@ -23,10 +27,7 @@ pub const RESERVED_STATUS: u16 = 0x8000;
 pub fn bit(w: u16, n: u16) -> bool
     ensures { result ≡ words.bit w n }
 {
-    if 16 <= n {
-        return false;
-    }
-    (w >> n) % 2 == 1
+    n < 16 && (w >> n) % 2 == 1
 }
 
 // The reserved bits of a word, all set.
@@ -54,32 +55,25 @@ pub fn other_bit(w: u16, layout: Layout) -> bool
 pub fn changes(old: u16, new: u16) -> u16
     ensures { result ≡ words.differing old new }
 {
-    u16::count_ones(old ^ new) as u16
+    (old ^ new).count_ones() as u16
 }
 
 // The word at a place of a file; 0 past its end.
 pub fn word_at(file: &[u16], n: usize) -> u16
     ensures { result ≡ words.word file.now n }
 {
-    if n < file.len() {
-        return file[n];
-    }
-    0
+    file.get(n).copied().unwrap_or(0)
 }
 
 // Some word of a file from the first to the last place is not 0.
 pub fn any_word(file: &[u16], from: usize, to: usize) -> bool
     ensures { result ≡ words.any_word from to file.now }
 {
-    let mut at = from;
-    while at < file.len() {
-        if to < at {
-            return false;
-        }
+    let end = file.len().min(to.saturating_add(1));
+    for at in from..end {
         if file[at] != 0 {
             return true;
         }
-        at = at + 1;
     }
     false
 }
@@ -88,16 +82,11 @@ pub fn any_word(file: &[u16], from: usize, to: usize) -> bool
 pub fn store(file: &mut [u16], at: usize, words: &[u16])
     ensures { file.new ≡ cond (leb (at + length words.now) (length file.old)) (Rattle.rules.specs.Words.stored_at at words.now file.old) file.old }
 {
-    if file.len() < at {
+    if file.len() < at || file.len() - at < words.len() {
         return;
     }
-    if file.len() - at < words.len() {
-        return;
-    }
-    let mut k: usize = 0;
-    while k < words.len() {
-        file[at + k] = words[k];
-        k = k + 1;
+    for (k, &w) in words.iter().enumerate() {
+        file[at + k] = w;
     }
 }
 
@@ -105,24 +94,7 @@ pub fn store(file: &mut [u16], at: usize, words: &[u16])
 pub fn bits(b0: bool, b1: bool, b2: bool, b3: bool, b4: bool, b5: bool) -> u16
     ensures { (result ≡ words.bits (b0 ∷ b1 ∷ b2 ∷ b3 ∷ b4 ∷ b5 ∷ [])) × (result < 64) }
 {
-    let high = digit(b4) + 2 * digit(b5);
-    let middle = digit(b2) + 2 * (digit(b3) + 2 * high);
-    digit(b0) + 2 * (digit(b1) + 2 * middle)
-}
-
-// 1 for true, 0 for false.
-fn digit(b: bool) -> u16
-    ensures { (result ≡ words.digit b) × (result < 2) }
-{
-    if b { 1 } else { 0 }
-}
-
-// One less, and 0 of 0.
-pub fn one_less(n: u16) -> u16
-    ensures { result ≡ n - 1 }
-{
-    if n == 0 {
-        return 0;
-    }
-    n - 1
+    let high = u16::from(b4) + 2 * u16::from(b5);
+    let middle = u16::from(b2) + 2 * (u16::from(b3) + 2 * high);
+    u16::from(b0) + 2 * (u16::from(b1) + 2 * middle)
 }

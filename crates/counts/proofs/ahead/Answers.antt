@@ -8,10 +8,10 @@ use Rattle.counts.proofs.ahead.Goals as goal
 pub returns-then-from-to : goal.returns-then-from-to
 returns-then-from-to c =
     let x = c.args in
-    sym (ahead_up x.top x.from x.to c.if-from-to.true c.if-top-to.false)
+    sym (ahead_up x.top x.from x.to c.if-from-to.true (omega arith))
 
-pub returns : goal.returns
-returns c =
+pub returns-else-from-to : goal.returns-else-from-to
+returns-else-from-to c =
     let x = c.args in
     let e : x.to + (x.top - x.from) + 1 ≡ x.to + (x.top + 1 - x.from) = omega arith in
-    e ∙ sym (ahead_round x.top x.from x.to c.if-from-to.false c.if-top-from.false)
+    e ∙ sym (ahead_round x.top x.from x.to c.if-from-to.false (omega arith))

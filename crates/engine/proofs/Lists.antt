@@ -1,46 +1,16 @@
--- Laws of lists that a step cites: an element by a group's number, and tables filled upwards and downwards by a loop.
+-- Laws of lists that a step cites: tables filled upwards and downwards by a loop.
 -- Assumes nothing.
 use Prim.Native.Nat.{ℕ, zero, suc, ◌+◌, ◌-◌, ◌<◌, ◌≤◌}
-use mathlib.Core.Bool.{Bool, true, false, ◌||◌, true≢false}
 use mathlib.Core.List.{List, [], ◌∷◌, map}
 use mathlib.Core.Path.{◌≡◌, refl, sym, ◌∙◌}
 use native.Mathlib.Numerals.{add-one}
 use native.Mathlib.Omega.{arith}
-use lib.Dec.{ltb, eqb}
-use lib.ListN.{length, get_or, take, drop, set, length-set, length-map, drop_of_length-le, get_or-eq_default}
-use lib.Seq.{take-suc-set, take_all, drop-cons}
-use borrow.Author.Tests.{eqb-true, ltb-true, ltb-false}
+use lib.ListN.{length, get_or, take, drop, set, length-set, length-map, drop_of_length-le}
+use lib.Seq.{take-suc, take-suc-set, take_all}
 use Rattle.rules.specs.Words.{table}
-use Rattle.rules.specs.Groups.{of_group}
 use Rattle.rules.proofs.Packing.{table_more}
 
--- a number that is neither 0 nor over 6 is that of a group
-by_zero : (n : ℕ) (zeroth : Bool) → eqb n 0 ≡ zeroth → (zeroth || ltb 6 n) ≡ false → (0 < n) × (n ≤ 6)
-by_zero n true e h = absurd (true≢false h)
-by_zero zero false e h = absurd (true≢false e)
-by_zero (suc n) false e h = (omega arith, ltb-false 6 (suc n) h)
-
-pub a_group : (n : ℕ) → (eqb n 0 || ltb 6 n) ≡ false → (0 < n) × (n ≤ 6)
-a_group n h = by_zero n (eqb n 0) refl h
-
 module _ {A : Type 0} where
-  -- what the six groups have at a number: one of them, or none
-  of_one : (none : A) (xs : List A) (n : ℕ) → 0 < n → of_group none xs n ≡ get_or xs (n - 1) none
-  of_one none xs zero h = absurd (omega arith)
-  of_one none xs (suc n) h = let e : suc n - 1 ≡ n = omega arith in rw e
-
-  pub of_some : (none : A) (xs : List A) (n : ℕ) → (eqb n 0 || ltb 6 n) ≡ false → of_group none xs n ≡ get_or xs (n - 1) none
-  of_some none xs n h = of_one none xs n (a_group n h).0
-
-  by_number : (none : A) (xs : List A) (n : ℕ) → length xs ≡ 6 → (zeroth : Bool) → eqb n 0 ≡ zeroth → (zeroth || ltb 6 n) ≡ true → of_group none xs n ≡ none
-  by_number none xs n six true e h = rw (eqb-true n 0 e)
-  by_number none xs n six false e h =
-      let l : 6 < n = ltb-true 6 n h in
-      of_one none xs n (omega arith) ∙ get_or-eq_default xs none (omega arith)
-
-  pub of_none : (none : A) (xs : List A) (n : ℕ) → length xs ≡ 6 → (eqb n 0 || ltb 6 n) ≡ true → of_group none xs n ≡ none
-  of_none none xs n six h = by_number none xs n six (eqb n 0) refl h
-
   -- a list of n elements whose first k are those of a function
   abbrev pub FilledUp : ℕ → ℕ → (ℕ → A) → List A → Type 0
   FilledUp n k f xs = (length xs ≡ n) × (take k xs ≡ table k 0 f)
@@ -53,6 +23,11 @@ module _ {A : Type 0} where
   up_more n k f xs v h e q =
       let z : 0 + k ≡ k = omega arith in
       (simp length-set e.0, rw (add-one k, take-suc-set xs k v (omega arith), e.1, q) (rw z at (table_more k 0 f)))
+
+  pub up_kept : (n k : ℕ) (f : ℕ → A) (xs : List A) (d : A) → k < n → FilledUp n k f xs → get_or xs k d ≡ f k → FilledUp n (k + 1) f xs
+  up_kept n k f xs d h e q =
+      let z : 0 + k ≡ k = omega arith in
+      (e.0, rw (add-one k, take-suc xs k d (omega arith), e.1, q) (rw z at (table_more k 0 f)))
 
   pub up_all : (n k : ℕ) (f : ℕ → A) (xs : List A) → k ≡ n → FilledUp n k f xs → xs ≡ table n 0 f
   up_all n k f xs h e = sym (take_all n xs (omega arith)) ∙ rw h at e.1
@@ -80,14 +55,6 @@ module _ {A : Type 0} where
       let m : n - (k - 1) ≡ suc (n - k) = omega arith in
       let j : k - 1 + 1 ≡ k = omega arith in
       (simp length-set e.0, rw (m, drop_set xs (k - 1) v (omega arith), j, e.1, q))
-
-  pub down_kept : (n k : ℕ) (f : ℕ → A) (xs : List A) (d : A) → 0 < k → k ≤ n → FilledDown n k f xs → get_or xs (k - 1) d ≡ f (k - 1) → FilledDown n (k - 1) f xs
-  unfolding table
-  down_kept n k f xs d h l e q =
-      let m : n - (k - 1) ≡ suc (n - k) = omega arith in
-      let j : suc (k - 1) ≡ k = omega arith in
-      let i : k - 1 + 1 ≡ k = omega arith in
-      (e.0, rw (m, drop-cons xs (k - 1) d (omega arith), j, i, e.1, q))
 
   pub down_all : (n k : ℕ) (f : ℕ → A) (xs : List A) → k ≡ 0 → FilledDown n k f xs → xs ≡ table n 0 f
   down_all n k f xs h e =

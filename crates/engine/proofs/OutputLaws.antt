@@ -4,46 +4,28 @@ use Prim.Native.Nat.{ℕ, zero, suc, ◌+◌}
 use mathlib.Core.Bool.{Bool, true, false, cond, ◌&&◌, ◌||◌, true≢false}
 use mathlib.Core.Path.{◌≡◌, refl, sym, ◌∙◌}
 use native.Mathlib.Omega.{arith}
-use lib.Dec.{ltb, eqb}
+use lib.Dec.{ltb}
 use lib.IntN.{ℤ}
-use borrow.Author.Tests.{lt-ltb, ne_eqb}
+use borrow.Author.Tests.{lt-ltb}
 use Rattle.rules.specs.declared.Position.{Position}
 use Rattle.rules.specs.declared.Switch.{Switch}
 use Rattle.rules.specs.declared.Switch.TheVariants.{Unprogrammed, Normal, Pulse, Timed}
-use Rattle.rules.specs.declared.Action.{Action}
 use Rattle.rules.specs.declared.Limit.{Limit}
 use Rattle.rules.specs.declared.TimedState.{TimedState}
 use Rattle.rules.specs.declared.GroupPosition.{GroupPosition}
 use Rattle.rules.specs.declared.Conditions.{Conditions}
-use Rattle.rules.specs.Variants.{switch_of, limit_switch}
+use Rattle.rules.specs.Variants.{limit_switch}
 use Rattle.rules.specs.Motion.{c_value}
 use Rattle.rules.specs.Switches.{pair_holds, switch_holds, switch_position, passes, output_rule, timed_holds}
 use Rattle.rules.specs.Card.{fresh_timed, timed_after, timed_now}
 
 -- ---- A switch's kind
 
-unprogrammed : (a : Action) → a.kind ≡ 0 → switch_of a ≡ Unprogrammed
-unfolding switch_of
-unprogrammed a e = rw e
-
-timed : (a : Action) → a.kind ≡ 3 → switch_of a ≡ Timed a.duration
-unfolding switch_of
-timed a e = rw e
-
-abbrev is_timed : Switch → Bool
+abbrev pub is_timed : Switch → Bool
 is_timed Unprogrammed = false
 is_timed Normal = false
 is_timed (Pulse q k) = false
 is_timed (Timed t) = true
-
-by_kind : (normal pulse : Bool) (a : Action) → is_timed (cond normal Normal (cond pulse (Pulse a.quantity a.count) Unprogrammed)) ≡ false
-by_kind true pulse a = refl
-by_kind false true a = refl
-by_kind false false a = refl
-
-untimed : (a : Action) → (a.kind ≡ 3 → ⊥) → is_timed (switch_of a) ≡ false
-unfolding switch_of
-untimed a h = rw (ne_eqb a.kind 3 h) (by_kind (eqb a.kind 1) (eqb a.kind 2) a)
 
 -- ---- What the kind leaves of the rule
 
@@ -73,29 +55,25 @@ fresh (Pulse q k) held x e = refl
 fresh (Timed t) held x e = absurd (true≢false e)
 
 module _ (w : Conditions) (l : Limit) (position : GroupPosition) where
-  pub untimed_rests : (x : TimedState) → (l.action.kind ≡ 3 → ⊥) → timed_now w l position x ≡ fresh_timed
+  pub untimed_rests : (x : TimedState) → is_timed (limit_switch l) ≡ false → timed_now w l position x ≡ fresh_timed
   unfolding timed_now
-  untimed_rests x h = fresh (limit_switch l) (timed_holds w l position) x (untimed l.action h)
-
-  pub none_rests : (x : TimedState) → l.action.kind ≡ 0 → timed_now w l position x ≡ fresh_timed
-  unfolding timed_now timed_after
-  none_rests x e = rw (unprogrammed l.action e)
+  untimed_rests x h = fresh (limit_switch l) (timed_holds w l position) x h
 
   module _ (isopen : Bool) (n : ℕ) where
     -- while a timed switch's time lasts, it is on as far as the rest of the rule lets it
-    pub timed_on : (x : TimedState) → l.action.kind ≡ 3 → output_rule w l position isopen (ltb 0 (timed_now w l position x).left) n ≡ (ltb 0 (timed_now w l position x).left && passes w l isopen n)
+    pub timed_on : (x : TimedState) (t : ℕ) → limit_switch l ≡ Timed t → output_rule w l position isopen (ltb 0 (timed_now w l position x).left) n ≡ (ltb 0 (timed_now w l position x).left && passes w l isopen n)
     unfolding output_rule timed_now timed_holds
-    timed_on x e =
-        rw (timed l.action e, lasts l.action.duration (w.top + 1) (c_value w.c) l (switch_position w position) x)
+    timed_on x t e =
+        rw (e, lasts t (w.top + 1) (c_value w.c) l (switch_position w position) x)
 
-    pub untimed_on : (lasting : Bool) → (l.action.kind ≡ 3 → ⊥) → output_rule w l position isopen lasting n ≡ output_rule w l position isopen false n
+    pub untimed_on : (lasting : Bool) → is_timed (limit_switch l) ≡ false → output_rule w l position isopen lasting n ≡ output_rule w l position isopen false n
     unfolding output_rule
     untimed_on lasting h =
-        rw (no_time (limit_switch l) (w.top + 1) (c_value w.c) l (switch_position w position) lasting (untimed l.action h))
+        rw (no_time (limit_switch l) (w.top + 1) (c_value w.c) l (switch_position w position) lasting h)
 
-    pub none_on : (lasting : Bool) → l.action.kind ≡ 0 → output_rule w l position isopen lasting n ≡ false
+    pub none_on : (lasting : Bool) → limit_switch l ≡ Unprogrammed → output_rule w l position isopen lasting n ≡ false
     unfolding output_rule switch_holds
-    none_on lasting e = rw (unprogrammed l.action e)
+    none_on lasting e = rw e
 
 -- a timed switch that neither held nor has time left is as at a start
 rest_by : (held : Bool) (left : ℕ) → (held || ltb 0 left) ≡ false → record { held = held; left = left } ≡ fresh_timed

@@ -4,7 +4,7 @@ ghost use Rattle.std.specs.Prelude.{◌≡◌, cond, ◌&&◌, ltb};
 ghost use Rattle.rules.specs.Words as words;
 ghost use Rattle.rules.specs.Switches as switches;
 
-use rules::{Answer, Conditions, Model, OutputWords, Sample, Setup};
+use rules::{Answer, Conditions, IoType, Model, OutputWords, Sample, Setup};
 
 // Sixteen outputs after their forces, off beats on; a missing one is never on.
 fn forced(present: u16, off: u16, on: u16, rule: u16) -> u16
@@ -19,13 +19,13 @@ pub fn output_words(m: Model, s: Sample, rule: u32) -> OutputWords
 {
     OutputWords {
         real: forced(
-            motion::present(m),
+            motion::present(m, IoType::Real),
             s.realoff,
             s.realon,
             (rule & 0xffff) as u16,
         ),
         virtuals: forced(
-            motion::virtual_present(m),
+            motion::present(m, IoType::Virtual),
             s.virtualoff,
             s.virtualon,
             (rule / 65536) as u16,
@@ -37,10 +37,7 @@ pub fn output_words(m: Model, s: Sample, rule: u32) -> OutputWords
 fn tach_shown(value: u64) -> u16
     ensures { result ≡ cond (ltb 32767 value) 32767 value }
 {
-    if 32767 < value {
-        return 32767;
-    }
-    value as u16
+    value.min(32767) as u16
 }
 
 // With SLCINT set, how many virtual outputs changed since the previous step, else 0.
@@ -49,9 +46,10 @@ fn changed_count(u: Setup, before: u16, after: u16) -> u16
     ensures { result ≡ switches.changed_count u before after }
 {
     if u.interrupt {
-        return word::changes(before, after);
+        word::changes(before, after)
+    } else {
+        0
     }
-    0
 }
 
 // What a step answers; one division makes the tachometer and TachOv.
@@ -59,12 +57,10 @@ fn changed_count(u: Setup, before: u16, after: u16) -> u16
 pub fn answer_of(u: Setup, refused: bool, w: Conditions, before: u16, o: OutputWords) -> Answer
     ensures { result ≡ switches.answer_of u refused w before o }
 {
-    let scalars = u.scalars;
-    let tach = motion::tach_value(scalars, w.rpm);
-    let machine = w.machine;
+    let tach = motion::tach_value(u.scalars, w.rpm);
     Answer {
-        refused: refused,
-        position: machine,
+        refused,
+        position: w.machine,
         rpm: w.rpm,
         tach: tach_shown(tach),
         overflow: 32767 < tach,

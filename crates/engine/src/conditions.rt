@@ -4,8 +4,7 @@ ghost use Rattle.std.specs.Prelude.{◌≡◌};
 ghost use Rattle.rules.specs.Motion as motion;
 ghost use Rattle.rules.specs.Card as card;
 
-use rules::variants::model_of;
-use rules::{Conditions, Configuration, MachinePosition, Sample, Setup, Speed};
+use rules::{Conditions, Configuration, MachinePosition, Model, Sample, Setup, Speed};
 
 // The speed after a step.
 #[tactic(auto, unfolding(rules::specs::Card::speed_now))]
@@ -15,53 +14,38 @@ pub fn speed_now(u: Setup, x: Speed, s: Sample) -> Speed
     motion::speed_after(u, x, motion::turned(u.reversed, s.raw))
 }
 
-// The setup and the inputs beside what the step worked out.
-#[tactic(auto, unfolding(rules::specs::Motion::real_inputs))]
-fn conditions_with(
-    g: Configuration,
-    s: Sample,
-    machine: MachinePosition,
-    c: u32,
-    rpm: u32,
-    update: bool,
-    md1: bool,
-    md2: bool,
-) -> Conditions
-    ensures { result ≡ motion.conditions_with g s machine c rpm update md1 md2 }
+// Of a step that is answered 11: the last Machine Position, no speed, the detectors off.
+#[tactic(auto, unfolding(rules::specs::Motion::fault_conditions, rules::specs::Motion::real_inputs))]
+pub fn fault_conditions(g: Configuration, s: Sample, last: MachinePosition) -> Conditions
+    ensures { result ≡ motion.fault_conditions g s last }
 {
     let u = g.programming.setup;
     Conditions {
         top: u.top,
         independent: u.independent,
-        machine: machine,
-        real: motion::real_inputs(model_of(g.model), u, s),
+        machine: last,
+        real: motion::real_inputs(Model::from(g.model), u, s),
         virtuals: s.virtuals,
-        c: c,
-        rpm: rpm,
-        update: update,
-        md1: md1,
-        md2: md2,
+        c: Speed::FRESH.c,
+        rpm: 0,
+        update: false,
+        md1: false,
+        md2: false,
     }
 }
 
-// Of a step that is not answered 11, where the speed was `before` and is `after`.
-#[tactic(auto, unfolding(rules::specs::Motion::conditions, rules::specs::Motion::machine_at))]
+// Of one that is not, where the speed was `before` and is `after`: where it stands and how it moves, and the inputs as in any step.
+#[tactic(auto, unfolding(rules::specs::Motion::conditions, rules::specs::Motion::fault_conditions, rules::specs::Motion::machine_at))]
 pub fn conditions_of(g: Configuration, s: Sample, before: Speed, after: Speed) -> Conditions
     ensures { result ≡ motion.conditions g s after.c after.rpm (card.updates (motion.window_steps g.programming.setup.fast) before.long) }
 {
     let u = g.programming.setup;
-    let update = motion::updates(motion::window_steps(u.fast), before.long);
-    let md1 = motion::detects(u.md1, after.rpm);
-    let md2 = motion::detects(u.md2, after.rpm);
-    let machine = motion::machine_position(u, s.raw);
-    conditions_with(g, s, machine, after.c, after.rpm, update, md1, md2)
-}
-
-// Of one that is answered 11: the last Machine Position, no speed, the detectors off.
-#[tactic(auto, unfolding(rules::specs::Motion::fault_conditions))]
-pub fn fault_conditions(g: Configuration, s: Sample, last: MachinePosition) -> Conditions
-    ensures { result ≡ motion.fault_conditions g s last }
-{
-    let c = Speed::FRESH.c;
-    conditions_with(g, s, last, c, 0, false, false, false)
+    Conditions {
+        c: after.c,
+        rpm: after.rpm,
+        update: motion::updates(motion::window_steps(u.fast), before.long),
+        md1: motion::detects(u.md1, after.rpm),
+        md2: motion::detects(u.md2, after.rpm),
+        ..fault_conditions(g, s, motion::machine_position(u, s.raw))
+    }
 }

@@ -4,8 +4,7 @@ ghost use Rattle.std.specs.Prelude.{◌≡◌, cond};
 ghost use Rattle.rules.specs.Groups as groups;
 ghost use Rattle.rules.specs.Card as card;
 
-use rules::variants::{mode_of, type_of};
-use rules::{Conditions, Event, Group, GroupPosition, GroupState};
+use rules::{Conditions, Event, Group, GroupPosition, GroupState, IoType, Mode};
 
 // A group after a step, the Group Position that the step leaves, and whether the group is open.
 #[derive(Clone, Copy)]
@@ -27,11 +26,10 @@ pub struct GroupsAfter {
 fn event(w: Conditions, g: Group, n: u16) -> Event
     ensures { result ≡ groups.group_event w g n }
 {
-    let machine = w.machine;
     Event {
-        machine: machine,
-        level: motion::level(w, type_of(g.isvirtual), n),
-        first: motion::level(w, type_of(g.firstvirtual), 7),
+        machine: w.machine,
+        level: motion::level(w, IoType::from(g.isvirtual), n),
+        first: motion::level(w, IoType::from(g.firstvirtual), 7),
         rpm: w.rpm,
         update: w.update,
     }
@@ -41,10 +39,7 @@ fn event(w: Conditions, g: Group, n: u16) -> Event
 fn left_position(used: bool, p: GroupPosition) -> GroupPosition
     ensures { result ≡ cond used p groups.no_position }
 {
-    if used {
-        return p;
-    }
-    GroupPosition(0)
+    if used { p } else { GroupPosition(0) }
 }
 
 // A group's step, worked out once for its state, its position and its openness.
@@ -54,12 +49,11 @@ fn group_after(w: Conditions, g: Group, x: GroupState, n: u16) -> GroupAfter
 {
     let e = event(w, g, n);
     let step = group::group_step(w.top, g, x, e);
-    let mode = mode_of(g.mode);
-    let state = step.state;
+    let mode = Mode::from(g.mode);
     GroupAfter {
-        state: state,
+        state: step.state,
         position: left_position(g.used, step.position),
-        isopen: group::is_open(mode, e.level, state.opened),
+        isopen: group::is_open(mode, e.level, step.state.opened),
     }
 }
 
@@ -70,21 +64,15 @@ pub fn groups_after(w: Conditions, gs: [Group; 6], xs: [GroupState; 6]) -> Group
     let mut states = xs;
     let mut positions = [GroupPosition(0); 6];
     let mut isopen = [false; 6];
-    let mut n: usize = 0;
-    while n < 6 {
-        let g = gs[n];
-        let x = xs[n];
-        let a = group_after(w, g, x, n as u16);
-        let state = a.state;
-        let position = a.position;
-        states[n] = state;
-        positions[n] = position;
+    for n in 0..6 {
+        let a = group_after(w, gs[n], xs[n], n as u16);
+        states[n] = a.state;
+        positions[n] = a.position;
         isopen[n] = a.isopen;
-        n = n + 1;
     }
     GroupsAfter {
-        states: states,
-        positions: positions,
-        isopen: isopen,
+        states,
+        positions,
+        isopen,
     }
 }

@@ -13,7 +13,7 @@ fn requested(b: Bus, count: u16) -> Bus
 {
     Bus {
         request: b.request | (count != 0),
-        mask: b.mask,
+        ..b
     }
 }
 
@@ -22,19 +22,18 @@ fn requested(b: Bus, count: u16) -> Bus
 pub fn kept_after(x: Kept, a: Answer, inputs: u16) -> Kept
     ensures { result ≡ card.kept_after x a inputs }
 {
-    let position = a.position;
     let shown = Shown {
-        position: position,
+        position: a.position,
         tach: a.tach,
         real: a.real,
         virtuals: a.virtuals,
-        inputs: inputs,
+        inputs,
         overflow: a.overflow,
         md1: a.md1,
         md2: a.md2,
     };
     Kept {
-        shown: shown,
+        shown,
         bus: requested(x.bus, a.changed),
     }
 }

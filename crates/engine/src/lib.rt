@@ -19,10 +19,9 @@ use crate::conditions::{conditions_of, fault_conditions, speed_now};
 use crate::groups::groups_after;
 use crate::kept::kept_after;
 use crate::outputs::outputs_after;
-use rules::variants::model_of;
 use rules::{
-    Answer, Conditions, GroupPosition, GroupState, Module, Programming, Sample, SinceStart, Speed,
-    State, StepResult, TimedState,
+    Answer, Conditions, GroupPosition, GroupState, Model, Module, Programming, Sample, SinceStart,
+    Speed, State, StepResult, TimedState,
 };
 
 // What a step changes of the module, and what it answers.
@@ -45,25 +44,19 @@ struct Since {
 fn since_after(p: Programming, w: Conditions, speed: Speed, x: SinceStart) -> Since
     ensures { (result.since ≡ card.since_after p w speed x) × (result.on ≡ words.packed 32 0 (card.rule_now p w x)) }
 {
-    let programs = p.groups;
-    let before = x.groups;
-    let gs = groups_after(w, programs, before);
-    let states = gs.states;
+    let gs = groups_after(w, p.groups, x.groups);
+    let o = outputs_after(p, w, gs.positions, gs.isopen, x.timed);
+    // An array is named before it goes into a struct: its proof asks for it.
+    let groups = gs.states;
     let positions = gs.positions;
-    let isopen = gs.isopen;
-    let timed = x.timed;
-    let o = outputs_after(p, w, positions, isopen, timed);
-    let renewed = o.timed;
+    let timed = o.timed;
     let since = SinceStart {
-        speed: speed,
-        groups: states,
-        positions: positions,
-        timed: renewed,
+        speed,
+        groups,
+        positions,
+        timed,
     };
-    Since {
-        since: since,
-        on: o.on,
-    }
+    Since { since, on: o.on }
 }
 
 // A step that is not answered 11.
@@ -71,40 +64,37 @@ fn sound_step(m: Module, s: Sample) -> Change
     ensures { result ≡ sound_change m.configuration m.state s }
 {
     let g = m.configuration;
-    let p = m.configuration.programming;
-    let u = m.configuration.programming.setup;
+    let u = g.programming.setup;
     let x = m.state.since;
     let speed = speed_now(u, x.speed, s);
     let w = conditions_of(g, s, x.speed, speed);
-    let after = since_after(p, w, speed, x);
-    let both = output_words(model_of(g.model), s, after.on);
+    let after = since_after(g.programming, w, speed, x);
+    let both = output_words(Model::from(g.model), s, after.on);
     let answer = answer_of(u, false, w, m.state.kept.shown.virtuals, both);
-    let since = after.since;
     let kept = kept_after(m.state.kept, answer, w.real);
     let state = State {
-        since: since,
-        kept: kept,
+        since: after.since,
+        kept,
     };
     Change {
-        state: state,
+        state,
         raw: s.raw,
         fault: g.fault,
-        answer: answer,
+        answer,
     }
 }
 
 // No timed switch runs. One that is at rest is not written again: as a loop of equal stores this would be unrolled, and the compiler would then copy
 // the whole array field by field in every step.
+// By index: over the elements themselves it takes 190 instructions a step more.
 fn timed_at_rest(xs: [TimedState; 32]) -> [TimedState; 32]
     ensures { result ≡ replicate 32 card.fresh_timed }
 {
     let mut timed = xs;
-    let mut left: usize = 32;
-    while 0 < left {
-        left = left - 1;
-        let x = timed[left];
+    for n in 0..32 {
+        let x = timed[n];
         if x.held | (0 < x.left) {
-            timed[left] = TimedState::FRESH;
+            timed[n] = TimedState::FRESH;
         }
     }
     timed
@@ -116,31 +106,24 @@ fn fault_step(m: Module, s: Sample) -> Change
     ensures { result ≡ fault_change m.configuration m.state s }
 {
     let g = m.configuration;
-    let u = m.configuration.programming.setup;
+    let u = g.programming.setup;
     let before = m.state.kept;
     let last = before.shown.position;
-    let timed = m.state.since.timed;
     let w = fault_conditions(g, s, last);
-    let forced = output_words(model_of(g.model), s, 0);
+    let forced = output_words(Model::from(g.model), s, 0);
     let answer = answer_of(u, true, w, before.shown.virtuals, forced);
-    let at_rest = timed_at_rest(timed);
-    let group = GroupState::FRESH;
     let since = SinceStart {
         speed: Speed::FRESH,
-        groups: [group; 6],
+        groups: [GroupState::FRESH; 6],
         positions: [GroupPosition(0); 6],
-        timed: at_rest,
+        timed: timed_at_rest(m.state.since.timed),
     };
     let kept = kept_after(before, answer, w.real);
-    let state = State {
-        since: since,
-        kept: kept,
-    };
     Change {
-        state: state,
+        state: State { since, kept },
         raw: g.raw,
         fault: true,
-        answer: answer,
+        answer,
     }
 }
 
@@ -148,7 +131,7 @@ fn fault_step(m: Module, s: Sample) -> Change
 fn sound(fault: bool, raw: u16) -> bool
     ensures { result ≡ (leb raw calls.raw_most && not fault) }
 {
-    (raw <= Module::RAW_MOST) & !fault
+    raw <= Module::RAW_MOST && !fault
 }
 
 // What a step changes. Each way is called in one place: the compiler then puts both in here, and does not copy the module to call them.
@@ -166,14 +149,12 @@ pub fn step(m: Module, s: Sample) -> StepResult
     ensures { result ≡ card.step_call m s }
 {
     let c = change_of(m, s);
-    let state = c.state;
-    let answer = c.answer;
-    let mut n = m;
-    n.configuration.raw = c.raw;
-    n.configuration.fault = c.fault;
-    n.state = state;
+    let mut card = m;
+    card.configuration.raw = c.raw;
+    card.configuration.fault = c.fault;
+    card.state = c.state;
     StepResult {
-        card: n,
-        answer: answer,
+        card,
+        answer: c.answer,
     }
 }

@@ -6,13 +6,8 @@ ghost use Rattle.rules.specs.Groups as groups;
 ghost use Rattle.rules.specs.Switches as switches;
 ghost use Rattle.rules.specs.Card as card;
 
-use rules::variants::{anded_of, switch_of};
-use rules::{Anded, Conditions, GroupPosition, Limit, Position, Programming, TimedState};
-
-// The kinds of a limit switch that are told apart before `switch_of` reads it.
-const UNPROGRAMMED: u16 = 0;
-
-const TIMED: u16 = 3;
+use rules::{Anded, Conditions, GroupPosition, Limit, Position, Programming, Switch, TimedState};
+use switch::Moment;
 
 // An output before the forces, and its timed switch after a step.
 #[derive(Clone, Copy)]
@@ -32,33 +27,18 @@ impl OutputAfter {
     // An unprogrammed output, or one that never was on.
     const OFF: OutputAfter = OutputAfter {
         on: false,
-        timed: TimedState {
-            held: false,
-            left: 0,
-        },
+        timed: TimedState::FRESH,
     };
 }
 
-// Where group `owner`, from 1, is; 0 or over 6 is no group, at 0.
-fn group_place(positions: [GroupPosition; 6], owner: u16) -> GroupPosition
-    ensures { result ≡ groups.of_group groups.no_position positions owner }
+// What the six groups have at the number `owner`, from 1; 0 or over 6 is no group.
+fn of_group<T: Copy>(none: T, xs: [T; 6], owner: u16) -> T
+    ensures { result ≡ groups.of_group none xs owner }
 {
-    if (owner == 0) | (6 < owner) {
-        return GroupPosition(0);
+    if owner == 0 {
+        return none;
     }
-    let at = owner as usize - 1;
-    positions[at]
-}
-
-// Group `owner` is open; 0 or over 6 is no group, closed.
-fn group_open(isopen: [bool; 6], owner: u16) -> bool
-    ensures { result ≡ groups.of_group false isopen owner }
-{
-    if (owner == 0) | (6 < owner) {
-        return false;
-    }
-    let at = owner as usize - 1;
-    isopen[at]
+    xs.get(owner as usize - 1).copied().unwrap_or(none)
 }
 
 // The position that an output's switch reads: of its group, or Machine Position in Independent Mode.
@@ -67,10 +47,21 @@ fn switch_position(w: Conditions, position: GroupPosition) -> Position
     ensures { result ≡ switches.switch_position w position }
 {
     if w.independent {
-        let machine = w.machine;
-        return Position::OfMachine(machine);
+        Position::OfMachine(w.machine)
+    } else {
+        Position::OfGroup(position)
     }
-    Position::OfGroup(position)
+}
+
+// What an output's switch is tested with.
+fn moment(w: Conditions, position: GroupPosition) -> Moment
+    ensures { result ≡ record { top = w.top; c = w.c; position = switches.switch_position w position } }
+{
+    Moment {
+        top: w.top,
+        c: w.c,
+        position: switch_position(w, position),
+    }
 }
 
 // The group lets output n, from 0, on; in Independent Mode a real output's own real input does.
@@ -79,12 +70,10 @@ fn admitted(w: Conditions, isopen: bool, n: u16) -> bool
     ensures { result ≡ switches.admitted w isopen n }
 {
     if w.independent {
-        if n < 16 {
-            return word::bit(w.real, n);
-        }
-        return true;
+        16 <= n || word::bit(w.real, n)
+    } else {
+        isopen
     }
-    isopen
 }
 
 // What LS Enable has to say; in Independent Mode nothing.
@@ -92,16 +81,8 @@ fn admitted(w: Conditions, isopen: bool, n: u16) -> bool
 fn enabled(w: Conditions, enable: bool, n: u16) -> bool
     ensures { result ≡ switches.enable_holds w enable n }
 {
-    if w.independent {
-        return true;
-    }
-    if enable {
-        if n < 16 {
-            return word::bit(w.real, 6);
-        }
-        return word::bit(w.virtuals, 6);
-    }
-    true
+    let inputs = if n < 16 { w.real } else { w.virtuals };
+    w.independent || !enable || word::bit(inputs, 6)
 }
 
 // The motion detector that an output is ANDed with.
@@ -121,12 +102,7 @@ fn detector_holds(w: Conditions, d: Anded) -> bool
 fn passes(w: Conditions, l: Limit, isopen: bool, n: u16) -> bool
     ensures { result ≡ switches.passes w l isopen n }
 {
-    if admitted(w, isopen, n) {
-        if enabled(w, l.enable, n) {
-            return detector_holds(w, anded_of(l.detector));
-        }
-    }
-    false
+    admitted(w, isopen, n) && enabled(w, l.enable, n) && detector_holds(w, Anded::from(l.detector))
 }
 
 // An output whose switch is not timed; its pairs are tested only where the rest of the rule lets it on.
@@ -134,11 +110,7 @@ fn passes(w: Conditions, l: Limit, isopen: bool, n: u16) -> bool
 fn untimed_on(w: Conditions, l: Limit, position: GroupPosition, isopen: bool, n: u16) -> bool
     ensures { result ≡ switches.output_rule w l position isopen false n }
 {
-    if passes(w, l, isopen, n) {
-        let p = switch_position(w, position);
-        return switch::switch_holds(w.top, w.c, l, p, false);
-    }
-    false
+    passes(w, l, isopen, n) && moment(w, position).switch_holds(l, false)
 }
 
 // A timed switch after a step.
@@ -146,9 +118,8 @@ fn untimed_on(w: Conditions, l: Limit, position: GroupPosition, isopen: bool, n:
 fn timed_now(w: Conditions, l: Limit, position: GroupPosition, x: TimedState) -> TimedState
     ensures { result ≡ card.timed_now w l position x }
 {
-    let p = switch_position(w, position);
-    let held = switch::pair_holds(w.top, w.c, l, 0, p);
-    switch::timed_after(switch_of(l.action), held, x)
+    let held = moment(w, position).pair_holds(l, 0);
+    switch::timed_after(Switch::from(l.action), held, x)
 }
 
 // Output n, from 0, before the forces. Of a timed switch the pair is tested once, for its state and for the output.
@@ -162,16 +133,19 @@ fn output_after(
 ) -> OutputAfter
     ensures { (result.on ≡ switches.output_rule w l position isopen (ltb 0 (card.timed_now w l position x).left) n) × (result.timed ≡ card.timed_now w l position x) }
 {
-    if l.action.kind == TIMED {
-        let timed = timed_now(w, l, position, x);
-        return OutputAfter {
-            on: (0 < timed.left) & passes(w, l, isopen, n),
-            timed: timed,
-        };
-    }
-    OutputAfter {
-        on: untimed_on(w, l, position, isopen, n),
-        timed: TimedState::FRESH,
+    let s = Switch::from(l.action);
+    match s {
+        Switch::Timed(_) => {
+            let timed = timed_now(w, l, position, x);
+            OutputAfter {
+                on: (0 < timed.left) & passes(w, l, isopen, n),
+                timed,
+            }
+        }
+        Switch::Unprogrammed | Switch::Normal | Switch::Pulse(_, _) => OutputAfter {
+            on: untimed_on(w, l, position, isopen, n),
+            timed: TimedState::FRESH,
+        },
     }
 }
 
@@ -185,28 +159,21 @@ pub fn outputs_after(
 ) -> OutputsAfter
     ensures { (result.on ≡ words.packed 32 0 (switches.rule_at p w positions isopen (λ k. ltb 0 (card.timed_of p w positions xs k).left))) × (result.timed ≡ words.table 32 0 (card.timed_of p w positions xs)) }
 {
-    let limits = p.limits;
-    let owners = p.owners;
-    let mut on: u32 = 0;
+    let mut on = 0;
     let mut timed = xs;
-    let mut left: usize = 32;
-    while 0 < left {
-        left = left - 1;
-        let l = limits[left];
-        let mut a = OutputAfter::OFF;
-        if l.action.kind != UNPROGRAMMED {
-            let x = xs[left];
-            let owner = owners[left];
-            let position = group_place(positions, owner);
-            let group = group_open(isopen, owner);
-            a = output_after(w, l, position, group, left as u16, x);
-        }
-        let t = a.timed;
-        timed[left] = t;
+    for n in (0..32).rev() {
+        let l = p.limits[n];
+        let a = match Switch::from(l.action) {
+            Switch::Unprogrammed => OutputAfter::OFF,
+            _ => {
+                let owner = p.owners[n];
+                let position = of_group(GroupPosition(0), positions, owner);
+                let isopen = of_group(false, isopen, owner);
+                output_after(w, l, position, isopen, n as u16, xs[n])
+            }
+        };
+        timed[n] = a.timed;
         on = on * 2 + a.on as u32;
     }
-    OutputsAfter {
-        on: on,
-        timed: timed,
-    }
+    OutputsAfter { on, timed }
 }

@@ -6,7 +6,6 @@ ghost use Rattle.rules.specs.Groups as groups;
 ghost use Rattle.rules.specs.Card as card;
 ghost use Rattle.group.specs.Step as steps;
 
-use rules::variants::mode_of;
 use rules::{Event, Group, GroupPosition, GroupState, MachinePosition, Mode, Pair};
 
 // A group under a shift: its position, and whether its dwell holds there.
@@ -52,14 +51,11 @@ pub fn preset_shift(top: u16, preset: u16, m: MachinePosition) -> u16
     counts::ahead(top, m.0, preset)
 }
 
-// The dwell holds at a Group Position. That its counts are in range is tested once; on that way the tests within `holds` are decided.
+// The dwell holds at a Group Position.
 #[tactic(auto, unfolding(rules::specs::Groups::dwell_holds))]
 pub fn dwell_holds(top: u16, d: Pair, p: GroupPosition) -> bool
     ensures { result ≡ groups.dwell_holds (top + 1) d p }
 {
-    if (top < d.on) | (top < d.off) | (top < p.0) {
-        return counts::holds_far(top, d.on, d.off, p.0);
-    }
     counts::holds(top, d.on, d.off, p.0)
 }
 
@@ -68,15 +64,7 @@ pub fn dwell_holds(top: u16, d: Pair, p: GroupPosition) -> bool
 fn presets(mode: Mode) -> bool
     ensures { result ≡ groups.presets mode }
 {
-    match mode {
-        Mode::NoMode => false,
-        Mode::Mode0 => false,
-        Mode::Mode1 => true,
-        Mode::Mode2 => true,
-        Mode::Mode3 => false,
-        Mode::Mode4 => false,
-        Mode::Mode5 => false,
-    }
+    matches!(mode, Mode::Mode1 | Mode::Mode2)
 }
 
 // An edge is inactive to active.
@@ -99,7 +87,7 @@ fn stops(e: Event) -> bool
 fn running(e: Event) -> bool
     ensures { result ≡ groups.running e }
 {
-    e.level & !(e.rpm == 0)
+    e.level & (e.rpm != 0)
 }
 
 // What is added to Machine Position: the shift in Modes 1 and 2, else the offset.
@@ -124,11 +112,11 @@ fn position_by(top: u16, g: Group, mode: Mode, shift: u16, m: MachinePosition) -
 fn place_by(top: u16, g: Group, mode: Mode, shift: u16, m: MachinePosition) -> Place
     ensures { result ≡ steps.place_at (top + 1) g mode shift m }
 {
-    let p = position_by(top, g, mode, shift, m);
+    let position = position_by(top, g, mode, shift, m);
     Place {
-        shift: shift,
-        position: p,
-        holds: dwell_holds(top, g.dwell, p),
+        shift,
+        position,
+        holds: dwell_holds(top, g.dwell, position),
     }
 }
 
@@ -168,11 +156,8 @@ fn opened_in(mode: Mode, two: bool, four: bool, five: bool) -> bool
     ensures { result ≡ steps.opened_in mode two four five }
 {
     match mode {
-        Mode::NoMode => false,
-        Mode::Mode0 => false,
-        Mode::Mode1 => false,
+        Mode::NoMode | Mode::Mode0 | Mode::Mode1 | Mode::Mode3 => false,
         Mode::Mode2 => two,
-        Mode::Mode3 => false,
         Mode::Mode4 => four,
         Mode::Mode5 => five,
     }
@@ -185,12 +170,9 @@ pub fn is_open(mode: Mode, level: bool, opened: bool) -> bool
 {
     match mode {
         Mode::NoMode => false,
-        Mode::Mode0 => true,
-        Mode::Mode1 => true,
-        Mode::Mode2 => opened,
+        Mode::Mode0 | Mode::Mode1 => true,
         Mode::Mode3 => level,
-        Mode::Mode4 => opened,
-        Mode::Mode5 => opened,
+        Mode::Mode2 | Mode::Mode4 | Mode::Mode5 => opened,
     }
 }
 
@@ -212,21 +194,21 @@ fn opened_after(mode: Mode, x: GroupState, e: Event, t: Turn) -> bool
 pub fn group_step(top: u16, g: Group, x: GroupState, e: Event) -> GroupStep
     ensures { (result.state ≡ card.group_after (top + 1) g x e) × (result.position ≡ card.position_now (top + 1) g x e) }
 {
-    let mode = mode_of(g.mode);
-    let edge_now = edge(x.level, e.level);
+    let mode = Mode::from(g.mode);
+    let edge = edge(x.level, e.level);
     let before = place_by(top, g, mode, x.shift, e.machine);
     let begins = before.holds & !x.held;
-    let taken = takes(mode, x, edge_now, begins);
+    let taken = takes(mode, x, edge, begins);
     let end = end_place(top, g, mode, e.machine, taken, before);
     let qualifying = end.holds & running(e);
     let qualified = since_dwell(qualifying, begins, x.qualified);
     let turn = Turn {
-        begins: begins,
-        edge: edge_now,
-        taken: taken,
+        begins,
+        edge,
+        taken,
         holds: end.holds,
-        qualifying: qualifying,
-        qualified: qualified,
+        qualifying,
+        qualified,
     };
     let state = GroupState {
         level: e.level,
@@ -235,12 +217,11 @@ pub fn group_step(top: u16, g: Group, x: GroupState, e: Event) -> GroupStep
         shift: end.shift,
         taken: taken | x.taken,
         begun: !taken & (begins | x.begun),
-        qualified: qualified,
+        qualified,
         opened: opened_after(mode, x, e, turn),
     };
-    let position = end.position;
     GroupStep {
-        state: state,
-        position: position,
+        state,
+        position: end.position,
     }
 }

@@ -7,7 +7,6 @@ ghost use Rattle.rules.specs.Variants as variants;
 ghost use Rattle.rules.specs.Motion as motion;
 ghost use Rattle.rules.specs.Card as card;
 
-use rules::variants::code_of;
 use rules::{
     Conditions, DecimalCode, Detector, IoType, Last, MachinePosition, Model, Sample, Scalars,
     Setup, Speed, Window,
@@ -16,29 +15,15 @@ use rules::{
 // c is made at every 120th step.
 const SHORT_STEPS: u16 = 120;
 
-// The real inputs, or the real outputs, that a module has, a bit for each.
-#[tactic(auto, unfolding(rules::specs::Words::packed, rules::specs::Variants::real_count))]
-pub fn present(m: Model) -> u16
-    ensures { result ≡ words.word_of 0 (λ n. nat_lt n (variants.real_count m)) }
+// The inputs of a type, or the outputs of it, that a module has, a bit for each.
+#[tactic(auto, unfolding(rules::specs::Words::packed, rules::specs::Variants::io_count, rules::specs::Variants::real_count, rules::specs::Variants::virtual_count))]
+pub fn present(m: Model, kind: IoType) -> u16
+    ensures { result ≡ words.word_of 0 (λ n. nat_lt n (variants.io_count m kind)) }
 {
-    match m {
-        Model::NoModule => 0,
-        Model::M8511 => 0,
-        Model::M8512 => 0x00ff,
-        Model::M8513 => 0xffff,
-    }
-}
-
-// The same of the virtual ones.
-#[tactic(auto, unfolding(rules::specs::Words::packed, rules::specs::Variants::virtual_count))]
-pub fn virtual_present(m: Model) -> u16
-    ensures { result ≡ words.word_of 0 (λ n. nat_lt n (variants.virtual_count m)) }
-{
-    match m {
-        Model::NoModule => 0,
-        Model::M8511 => 0xffff,
-        Model::M8512 => 0xffff,
-        Model::M8513 => 0xffff,
+    match (kind, m) {
+        (_, Model::NoModule) | (IoType::Real, Model::M8511) => 0,
+        (IoType::Real, Model::M8512) => 0x00ff,
+        (IoType::Real, Model::M8513) | (IoType::Virtual, _) => 0xffff,
     }
 }
 
@@ -47,7 +32,7 @@ pub fn real_inputs(m: Model, u: Setup, s: Sample) -> u16
     ensures { result ≡ words.word_of 0 (motion.real_input m u s) }
 {
     let active = s.currents ^ u.states ^ 0xffff;
-    present(m) & ((s.inputsoff ^ 0xffff) & (s.inputson | active))
+    present(m, IoType::Real) & ((s.inputsoff ^ 0xffff) & (s.inputson | active))
 }
 
 // The level of input n of a type, from 0.
@@ -122,7 +107,7 @@ pub fn updates(size: u16, w: Window) -> bool
 pub fn window_sum(w: Window, m: u16) -> u32
     ensures { result ≡ card.window_sum w m }
 {
-    std::num::wrapping_add_u32(w.sum, m as u32)
+    w.sum.wrapping_add(m as u32)
 }
 
 // The window after a step.
@@ -154,9 +139,8 @@ pub fn rpm_of(fast: bool, counts: u32) -> u32
 fn c_after(x: Speed, m: u16) -> u32
     ensures { result ≡ card.c_after x m }
 {
-    let short = x.short;
-    if updates(SHORT_STEPS, short) {
-        return window_sum(short, m);
+    if updates(SHORT_STEPS, x.short) {
+        return window_sum(x.short, m);
     }
     x.c
 }
@@ -166,10 +150,9 @@ fn rpm_after(fast: bool, x: Speed, m: u16) -> u32
     ensures { result ≡ card.rpm_after fast x m }
 {
     let size = window_steps(fast);
-    let long = x.long;
-    if updates(size, long) {
+    if updates(size, x.long) {
         let added = 512 * size as u32;
-        return rpm_of(fast, counts::apart(window_sum(long, m), added));
+        return rpm_of(fast, window_sum(x.long, m).abs_diff(added));
     }
     x.rpm
 }
@@ -178,17 +161,14 @@ fn rpm_after(fast: bool, x: Speed, m: u16) -> u32
 pub fn speed_after(u: Setup, x: Speed, q: u16) -> Speed
     ensures { result ≡ card.speed_after u x q }
 {
-    let last = x.last;
-    let short = x.short;
-    let long = x.long;
-    let m = biased_movement(last, q);
+    let m = biased_movement(x.last, q);
     Speed {
         last: Last {
             stepped: true,
             at: q,
         },
-        short: window_after(SHORT_STEPS, short, m),
-        long: window_after(window_steps(u.fast), long, m),
+        short: window_after(SHORT_STEPS, x.short, m),
+        long: window_after(window_steps(u.fast), x.long, m),
         c: c_after(x, m),
         rpm: rpm_after(u.fast, x, m),
     }
@@ -211,7 +191,7 @@ fn power_of_ten(code: DecimalCode) -> u16
 pub fn tach_value(k: Scalars, rpm: u32) -> u64
     ensures { result ≡ motion.tach_value k rpm }
 {
-    let code = code_of(k.code);
+    let code = DecimalCode::from(k.code);
     let d = (k.divider as u64 + 1) * power_of_ten(code) as u64;
     (2 * (rpm as u64 * k.multiplier as u64) + d) / (2 * d)
 }
@@ -221,19 +201,13 @@ pub fn tach_value(k: Scalars, rpm: u32) -> u64
 pub fn detects(d: Detector, rpm: u32) -> bool
     ensures { result ≡ motion.detects d rpm }
 {
-    let low = d.low as u32;
-    let high = d.high as u32;
-    if low + high == 0 {
+    let (low, high) = (d.low as u32, d.high as u32);
+    if low == 0 && high == 0 {
         return false;
     }
     if low <= high {
-        if rpm < low {
-            return false;
-        }
-        return rpm <= high;
+        low <= rpm && rpm <= high
+    } else {
+        low <= rpm || rpm <= high
     }
-    if rpm <= high {
-        return true;
-    }
-    low <= rpm
 }

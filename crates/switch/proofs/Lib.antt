@@ -1,4 +1,4 @@
 pub mod Ranges
 pub mod Advance
 pub mod Pairs
-pub mod Train
+pub mod Pulses

@@ -9,7 +9,6 @@ ghost use Rattle.rules.specs.Switches.{advance_value, advance_shift, count_at, o
 ghost use Rattle.rules.specs.Card.{timed_after};
 ghost use Rattle.switch.specs.Parts.{shift_bias, shift_counts, taken_back, spread_of, pair_at, some_pair, last_pulse, timed_left};
 
-use rules::variants::switch_of;
 use rules::{Advance, Limit, Position, Speed, Switch, TimedState};
 
 // What is added to a shift s, so that one number stands for either sign: 2^47, more than any s.
@@ -31,7 +30,7 @@ fn shift(top: u16, a: Advance, c: u32) -> u64
     if a.tenths == 0 {
         return SHIFT_BIAS;
     }
-    let s = shift_counts(top, a.tenths, counts::apart(c, Speed::C_BIAS));
+    let s = shift_counts(top, a.tenths, c.abs_diff(Speed::C_BIAS));
     let back = c < Speed::C_BIAS;
     if a.negative != back {
         return SHIFT_BIAS - s;
@@ -67,15 +66,9 @@ fn spread(top: u16, on: u64, off: u64) -> u32
 {
     let sf = top as u64 + 1;
     if on < off {
-        if sf < off - on {
-            return 0;
-        }
-        return (sf - (off - on)) as u32;
+        return sf.saturating_sub(off - on) as u32;
     }
-    if sf < on - off {
-        return (sf + sf) as u32;
-    }
-    (sf + (on - off)) as u32
+    (sf + sf.min(on - off)) as u32
 }
 
 // The count of the position that a switch reads.
@@ -92,163 +85,165 @@ fn count_at(p: Position) -> u16
 fn setpoint(setpoints: [u16; 16], i: usize) -> u16
     ensures { result ≡ get_or setpoints i 0 }
 {
-    if i < 16 {
-        return setpoints[i];
-    }
-    0
+    setpoints.get(i).copied().unwrap_or(0)
 }
 
 // What the pairs of a switch are tested with, worked out once for all of them.
 #[derive(Clone, Copy)]
 struct Displaced {
+    pub top: u16,
     // The position, taken back by the ON displacement.
     pub from: u16,
     // How much the displacements lengthen a pair, and SF more.
     pub spread: u32,
 }
 
-// A switch at c and a position.
-fn displace(top: u16, c: u32, l: Limit, p: Position) -> Displaced
-    ensures { (result.from ≡ taken_back (top + 1) (on_shift (top + 1) (c_value c) l) (count_at p)) × (result.spread ≡ spread_of (top + 1) (on_shift (top + 1) (c_value c) l -ℤ off_shift (top + 1) (c_value c) l)) }
-{
-    let on = shift(top, l.onadvance, c);
-    let off = shift(top, l.offadvance, c);
-    Displaced {
-        from: taken_back(top, on, count_at(p)),
-        spread: spread(top, on, off),
-    }
-}
-
-// One pair: how far the position is from its start, less the pair's own length, against the spread. For how long it holds is decided here. That
-// all its counts are in range is tested once for the pair: on that way the tests within `ahead` are decided, and no division is left.
-#[tactic(auto, unfolding(crate::specs::Parts::pair_at))]
-fn pair_at(top: u16, from: u16, spread: u32, on: u16, off: u16) -> bool
-    ensures { result ≡ pair_at (top + 1) from spread on off }
-{
-    let sf = top as u32 + 1;
-    let used = counts::used_pair(on, off);
-    if used {
-        if (top < on) | (top < off) | (top < from) {
-            let length = counts::ahead_far(top, on, off) as u32;
-            return counts::ahead_far(top, on, from) as u32 + (sf - length) < spread;
+impl Displaced {
+    // One pair: how far the position is from its start, less the pair's own length, against the spread. For how long it holds is decided here. That
+    // all its counts are in range is tested once for the pair: on that way the tests within `ahead` are decided, and no division is left.
+    #[tactic(auto, unfolding(crate::specs::Parts::pair_at))]
+    fn pair_holds(self, on: u16, off: u16) -> bool
+        ensures { result ≡ pair_at (self.top + 1) self.from self.spread on off }
+    {
+        let sf = self.top as u32 + 1;
+        let used = counts::used_pair(on, off);
+        if !used {
+            return false;
         }
-        let length = counts::ahead(top, on, off) as u32;
-        return counts::ahead(top, on, from) as u32 + (sf - length) < spread;
-    }
-    false
-}
-
-// The loop that tests the pairs of a normal switch, up to the first that holds.
-#[tactic(auto, unfolding(crate::specs::Parts::some_pair))]
-fn some_pair(top: u16, from: u16, spread: u32, setpoints: [u16; 16]) -> bool
-    ensures { result ≡ some_pair (top + 1) from spread setpoints }
-{
-    let mut k: usize = 0;
-    while k < 8 {
-        if pair_at(top, from, spread, setpoints[2 * k], setpoints[2 * k + 1]) {
-            return true;
+        if (self.top < on) | (self.top < off) | (self.top < self.from) {
+            let length = counts::ahead_far(self.top, on, off) as u32;
+            return counts::ahead_far(self.top, on, self.from) as u32 + (sf - length) < self.spread;
         }
-        k = k + 1;
+        let length = counts::ahead(self.top, on, off) as u32;
+        counts::ahead(self.top, on, self.from) as u32 + (sf - length) < self.spread
     }
-    false
-}
 
-// Pair k of a switch holds at c.
-pub fn pair_holds(top: u16, c: u32, l: Limit, k: u16, p: Position) -> bool
-    ensures { result ≡ pair_holds (top + 1) (c_value c) l k p }
-{
-    let s = l.setpoints;
-    let i = 2 * k as usize;
-    let d = displace(top, c, l, p);
-    pair_at(top, d.from, d.spread, setpoint(s, i), setpoint(s, i + 1))
-}
-
-// Normal: some used pair holds.
-pub fn normal_holds(top: u16, c: u32, l: Limit, p: Position) -> bool
-    ensures { result ≡ normal_holds (top + 1) (c_value c) l p }
-{
-    let s = l.setpoints;
-    let d = displace(top, c, l, p);
-    some_pair(top, d.from, d.spread, s)
-}
-
-// Where pulse j of a train of Q pulses of K counts in R starts.
-pub fn pulse_start(r: u16, q: u16, k: u16, j: u16) -> u32
-    ensures { result ≡ pulse_start r q k j }
-{
-    if q <= 1 {
-        return 0;
-    }
-    if r <= k {
-        return 0;
-    }
-    j as u32 * (r - k) as u32 / (q - 1) as u32
-}
-
-// The last pulse that has started at `at` counts from the train's start.
-#[tactic(auto, unfolding(crate::specs::Parts::last_pulse))]
-fn last_pulse(r: u16, q: u16, k: u16, at: u16) -> u16
-    ensures { result ≡ last_pulse r q k at }
-{
-    if q <= 1 {
-        return 0;
-    }
-    if r <= k {
-        return 0;
-    }
-    let j = ((at as u32 + 1) * (q - 1) as u32 - 1) / (r - k) as u32;
-    if (q - 1) as u32 <= j {
-        return q - 1;
-    }
-    j as u16
-}
-
-// Pulse: some pulse is on at `at` counts from the train's start. Only the last one that has started can be.
-#[tactic(auto, unfolding(rules::specs::Switches::pulse_on, rules::specs::Words::some_of))]
-pub fn pulse_on(r: u16, q: u16, k: u16, at: u16) -> bool
-    ensures { result ≡ pulse_on r q k at }
-{
-    if q == 0 {
-        return false;
-    }
-    let start = pulse_start(r, q, k, last_pulse(r, q, k, at));
-    (at as u64) < start as u64 + k as u64
-}
-
-// A pulse switch at c: R from the unmoved pair, the train from the ON setpoint moved by the ON advance.
-#[tactic(auto, unfolding(rules::specs::Switches::pulse_holds))]
-fn pulse_holds(top: u16, c: u32, l: Limit, q: u16, k: u16, p: Position) -> bool
-    ensures { result ≡ pulse_holds (top + 1) (c_value c) l q k p }
-{
-    let s = l.setpoints;
-    let on = s[0];
-    let off = s[1];
-    if counts::used_pair(on, off) {
-        let from = taken_back(top, shift(top, l.onadvance, c), count_at(p));
-        return pulse_on(
-            counts::ahead(top, on, off),
-            q,
-            k,
-            counts::ahead(top, on, from),
-        );
-    }
-    false
-}
-
-// A switch holds. `lasting` says of a timed one that its time has not run out.
-pub fn switch_holds(top: u16, c: u32, l: Limit, p: Position, lasting: bool) -> bool
-    ensures { result ≡ switch_holds (top + 1) (c_value c) l (limit_switch l) p lasting }
-{
-    let s = switch_of(l.action);
-    match s {
-        Switch::Unprogrammed => false,
-        Switch::Normal => normal_holds(top, c, l, p),
-        Switch::Pulse(q, k) => pulse_holds(top, c, l, q, k, p),
-        Switch::Timed(_) => {
-            if lasting {
-                return pair_holds(top, c, l, 0, p);
+    // The loop that tests the pairs of a normal switch, up to the first that holds.
+    #[tactic(auto, unfolding(crate::specs::Parts::some_pair))]
+    fn some_pair_holds(self, setpoints: [u16; 16]) -> bool
+        ensures { result ≡ some_pair (self.top + 1) self.from self.spread setpoints }
+    {
+        for k in 0..8 {
+            if self.pair_holds(setpoints[2 * k], setpoints[2 * k + 1]) {
+                return true;
             }
-            false
+        }
+        false
+    }
+}
+
+// A pulse train: 01's R, Q and K.
+#[derive(Clone, Copy)]
+pub struct Train {
+    pub length: u16,
+    pub quantity: u16,
+    pub count: u16,
+}
+
+impl Train {
+    // Where pulse j starts.
+    pub fn start(self, j: u16) -> u32
+        ensures { result ≡ pulse_start self.length self.quantity self.count j }
+    {
+        if self.quantity <= 1 {
+            return 0;
+        }
+        j as u32 * self.length.saturating_sub(self.count) as u32 / (self.quantity - 1) as u32
+    }
+
+    // The last pulse that has started at `at` counts from the train's start.
+    #[tactic(auto, unfolding(crate::specs::Parts::last_pulse))]
+    fn last_started(self, at: u16) -> u16
+        ensures { result ≡ last_pulse self.length self.quantity self.count at }
+    {
+        if self.quantity <= 1 || self.length <= self.count {
+            return 0;
+        }
+        let gaps = (self.quantity - 1) as u32;
+        (((at as u32 + 1) * gaps - 1) / (self.length - self.count) as u32).min(gaps) as u16
+    }
+
+    // Some pulse is on at `at` counts from the train's start. Only the last one that has started can be.
+    #[tactic(auto, unfolding(rules::specs::Switches::pulse_on, rules::specs::Words::some_of))]
+    pub fn is_on(self, at: u16) -> bool
+        ensures { result ≡ pulse_on self.length self.quantity self.count at }
+    {
+        self.quantity != 0
+            && (at as u64) < self.start(self.last_started(at)) as u64 + self.count as u64
+    }
+}
+
+// What every switch is tested with: the scale factor, c and the position that it reads.
+#[derive(Clone, Copy)]
+pub struct Moment {
+    pub top: u16,
+    pub c: u32,
+    pub position: Position,
+}
+
+impl Moment {
+    // What the pairs of a switch are tested with.
+    fn displaced(self, l: Limit) -> Displaced
+        ensures { (result.top ≡ self.top) × (result.from ≡ taken_back (self.top + 1) (on_shift (self.top + 1) (c_value self.c) l) (count_at self.position)) × (result.spread ≡ spread_of (self.top + 1) (on_shift (self.top + 1) (c_value self.c) l -ℤ off_shift (self.top + 1) (c_value self.c) l)) }
+    {
+        let on = shift(self.top, l.onadvance, self.c);
+        let off = shift(self.top, l.offadvance, self.c);
+        Displaced {
+            top: self.top,
+            from: taken_back(self.top, on, count_at(self.position)),
+            spread: spread(self.top, on, off),
+        }
+    }
+
+    // Pair k of a switch holds.
+    pub fn pair_holds(self, l: Limit, k: u16) -> bool
+        ensures { result ≡ pair_holds (self.top + 1) (c_value self.c) l k self.position }
+    {
+        let i = 2 * k as usize;
+        self.displaced(l)
+            .pair_holds(setpoint(l.setpoints, i), setpoint(l.setpoints, i + 1))
+    }
+
+    // Normal: some used pair holds.
+    pub fn normal_holds(self, l: Limit) -> bool
+        ensures { result ≡ normal_holds (self.top + 1) (c_value self.c) l self.position }
+    {
+        self.displaced(l).some_pair_holds(l.setpoints)
+    }
+
+    // A pulse switch: R from the unmoved pair, the train from the ON setpoint moved by the ON advance.
+    #[tactic(auto, unfolding(rules::specs::Switches::pulse_holds))]
+    fn pulse_holds(self, l: Limit, quantity: u16, count: u16) -> bool
+        ensures { result ≡ pulse_holds (self.top + 1) (c_value self.c) l quantity count self.position }
+    {
+        let [on, off, ..] = l.setpoints;
+        if !counts::used_pair(on, off) {
+            return false;
+        }
+        let from = taken_back(
+            self.top,
+            shift(self.top, l.onadvance, self.c),
+            count_at(self.position),
+        );
+        let train = Train {
+            length: counts::ahead(self.top, on, off),
+            quantity,
+            count,
+        };
+        train.is_on(counts::ahead(self.top, on, from))
+    }
+
+    // A switch holds. `lasting` says of a timed one that its time has not run out.
+    #[tactic(auto, unfolding(rules::specs::Switches::switch_holds))]
+    pub fn switch_holds(self, l: Limit, lasting: bool) -> bool
+        ensures { result ≡ switch_holds (self.top + 1) (c_value self.c) l (limit_switch l) self.position lasting }
+    {
+        let s = Switch::from(l.action);
+        match s {
+            Switch::Unprogrammed => false,
+            Switch::Normal => self.normal_holds(l),
+            Switch::Pulse(q, k) => self.pulse_holds(l, q, k),
+            Switch::Timed(_) => lasting && self.pair_holds(l, 0),
         }
     }
 }
@@ -258,16 +253,13 @@ pub fn switch_holds(top: u16, c: u32, l: Limit, p: Position, lasting: bool) -> b
 fn timed_left(t: u16, held: bool, before: bool, left: u32) -> u32
     ensures { result ≡ timed_left t held before left }
 {
-    if held {
-        if before {
-            if left == 0 {
-                return 0;
-            }
-            return left - 1;
-        }
-        return 5 * t as u32;
+    if !held {
+        return 0;
     }
-    0
+    if before {
+        return left.saturating_sub(1);
+    }
+    5 * t as u32
 }
 
 // A timed switch after a step at whose end its pair held or not.
@@ -276,11 +268,9 @@ pub fn timed_after(s: Switch, held: bool, x: TimedState) -> TimedState
     ensures { result ≡ timed_after s held x }
 {
     match s {
-        Switch::Unprogrammed => TimedState::FRESH,
-        Switch::Normal => TimedState::FRESH,
-        Switch::Pulse(_, _) => TimedState::FRESH,
+        Switch::Unprogrammed | Switch::Normal | Switch::Pulse(_, _) => TimedState::FRESH,
         Switch::Timed(t) => TimedState {
-            held: held,
+            held,
             left: timed_left(t, held, x.held, x.left),
         },
     }

@@ -11,5 +11,5 @@ pub returns : goal.returns
 unfolding fault_conditions answer_of module_start fault_answer fault_change dark_outputs
 returns c =
     let a = c.args in
-    let both : c.output_words-forced.result ≡ dark_outputs a.m.configuration a.s = rw (c.output_words-forced.ensures, c.model_of.ensures) (words_none _ _) in
-    rw (c.kept_after-kept.ensures, c.timed_at_rest-at_rest.ensures, c.answer_of-answer.ensures, both, c.fault_conditions-w.ensures)
+    let both : c.output_words-forced.result ≡ dark_outputs a.m.configuration a.s = rw (c.output_words-forced.ensures, c.from.ensures) (words_none _ _) in
+    rw (c.kept_after-kept.ensures, c.timed_at_rest.ensures, c.answer_of-answer.ensures, both, c.fault_conditions-w.ensures)

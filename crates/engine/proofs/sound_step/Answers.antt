@@ -20,7 +20,7 @@ returns c =
     let a = c.args in
     let conditioned : c.conditions_of-w.result ≡ conditions_now a.m.configuration a.m.state.since a.s = rw (c.conditions_of-w.ensures, c.speed_now-speed.ensures) in
     let both : c.output_words-both.result ≡ ruled_outputs a.m.configuration a.m.state.since a.s =
-    rw (c.output_words-both.ensures, c.model_of.ensures, c.since_after-after.ensures.1, conditioned) (words_packed _ _ _)
+    rw (c.output_words-both.ensures, c.from.ensures, c.since_after-after.ensures.1, conditioned) (words_packed _ _ _)
     in
     rw (
       c.kept_after-kept.ensures,

@@ -13,7 +13,6 @@ use Rattle.engine.proofs.groups.groups_after.Goals as goal
 pub loop-n-init : goal.loop-n-init
 loop-n-init c =
     let a = c.args in (
-      omega arith,
       up_none 6 (state_at a.w a.gs a.xs) a.xs (search rules),
       up_none 6 (position_at a.w a.gs a.xs) (replicate 6 no_position) refl,
       up_none 6 (open_at a.w a.gs a.xs) (replicate 6 false) refl,
@@ -24,10 +23,9 @@ loop-n-preserved c =
     let l = c.loop-n in
     let a = c.args in
     let r = c.group_after-a.ensures in (
-      omega arith,
-      up_more 6 l.n (state_at a.w a.gs a.xs) l.states _ (omega arith) l.invariant.1 r.0,
-      up_more 6 l.n (position_at a.w a.gs a.xs) l.positions _ (omega arith) l.invariant.2 r.1,
-      up_more 6 l.n (open_at a.w a.gs a.xs) l.isopen _ (omega arith) l.invariant.3 r.2,
+      up_more 6 l.n (state_at a.w a.gs a.xs) l.states _ (omega arith) l.invariant.0 r.0,
+      up_more 6 l.n (position_at a.w a.gs a.xs) l.positions _ (omega arith) l.invariant.1 r.1,
+      up_more 6 l.n (open_at a.w a.gs a.xs) l.isopen _ (omega arith) l.invariant.2 r.2,
     )
 
 pub returns : goal.returns
@@ -35,4 +33,4 @@ unfolding groups_now positions_now openness_now
 returns c =
     let l = c.loop-n in
     let e : l.n ≡ 6 = omega arith in
-    (up_all 6 l.n _ l.states e l.invariant.1, up_all 6 l.n _ l.positions e l.invariant.2, up_all 6 l.n _ l.isopen e l.invariant.3)
+    (up_all 6 l.n _ l.states e l.invariant.0, up_all 6 l.n _ l.positions e l.invariant.1, up_all 6 l.n _ l.isopen e l.invariant.2)

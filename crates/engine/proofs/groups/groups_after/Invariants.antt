@@ -1,4 +1,4 @@
-use Prim.Native.Nat.{ℕ, ◌≤◌, ◌-◌}
+use Prim.Native.Nat.{ℕ}
 use mathlib.Core.Bool.{Bool}
 use mathlib.Core.List.{List}
 use lib.ListN.{get_or}
@@ -23,7 +23,4 @@ open_at w gs xs n = open_now w (get_or gs n no_group) (get_or xs n fresh_group) 
 
 abbrev pub invariant-loop-n : goal.invariant-loop-n
 invariant-loop-n l =
-    (l.n ≤ 6) × FilledUp 6 l.n (state_at l.w l.gs l.xs) l.states × FilledUp 6 l.n (position_at l.w l.gs l.xs) l.positions × FilledUp 6 l.n (open_at l.w l.gs l.xs) l.isopen
-
-abbrev pub decreases-loop-n : goal.decreases-loop-n
-decreases-loop-n l = 6 - l.n
+    FilledUp 6 l.n (state_at l.w l.gs l.xs) l.states × FilledUp 6 l.n (position_at l.w l.gs l.xs) l.positions × FilledUp 6 l.n (open_at l.w l.gs l.xs) l.isopen

@@ -16,68 +16,69 @@ use Rattle.rules.specs.Card.{fresh_timed, timed_now, timed_of}
 use Rattle.rules.proofs.Packing.{digit_le}
 use Rattle.word.proofs.Laws.{byte_digit, packed_below, packed_turn}
 use Rattle.engine.proofs.Lists.{down_none, down_more, down_all, length_mapped}
-use Rattle.engine.proofs.OutputLaws.{none_on, none_rests}
 use Rattle.engine.specs.declared.outputs.OutputAfter.{OutputAfter}
 use borrow.Author.Rules.{rules}
 use Rattle.engine.proofs.outputs.outputs_after.Invariants.{timed_at, on_at}
 use Rattle.engine.proofs.outputs.outputs_after.Goals as goal
-use Rattle.engine.proofs.outputs.outputs_after.Goals.{then-l-ne-UNPROGRAMMED, else-l-ne-UNPROGRAMMED}
+use Rattle.engine.proofs.OutputLaws.{none_on, untimed_rests}
+use Rattle.rules.specs.Variants.{limit_switch}
+use Rattle.rules.specs.declared.Switch.TheVariants.{Unprogrammed}
+use Rattle.engine.proofs.outputs.outputs_after.Goals.{in-Unprogrammed, in_default}
 
--- an unprogrammed output is off, and any other is worked out
-off : (w : Conditions) (l : Limit) (position : GroupPosition) (isopen : Bool) (x : TimedState) (n : ℕ) (a : OutputAfter) → l.action.kind ≡ 0
+-- an unprogrammed output is off
+off : (w : Conditions) (l : Limit) (position : GroupPosition) (isopen : Bool) (x : TimedState) (n : ℕ) (a : OutputAfter) → limit_switch l ≡ Unprogrammed
     → a ≡ record { on = false; timed = fresh_timed } → (a.on ≡ output_rule w l position isopen (ltb 0 (timed_now w l position x).left) n) × (a.timed ≡ timed_now w l position x)
-off w l position isopen x n a e q = (ap (λ (o : OutputAfter). o.on) q ∙ sym (none_on w l position isopen n _ e), ap (λ (o : OutputAfter). o.timed) q ∙ sym (none_rests w l position x e))
+off w l position isopen x n a e q = (ap (λ (o : OutputAfter). o.on) q ∙ sym (none_on w l position isopen n _ e), ap (λ (o : OutputAfter). o.timed) q ∙ sym (untimed_rests w l position x (rw e)))
 
 -- in a turn the word has at most 31 digits
 small : (left on : ℕ) (f : ℕ → Bool) → 0 < left → left ≤ 32 → on ≡ packed (32 - left) left f → on * 2 < 2 ^ 32
 small left on f p q e = omega (arith, e, packed_below (32 - left) 31 left f (omega arith))
 
-pub loop-left-init : goal.loop-left-init
+pub loop-n-init : goal.loop-n-init
 unfolding packed
-loop-left-init c =
+loop-n-init c =
     let a = c.args in
-    (omega arith, refl, down_none 32 (timed_at a.w a.positions a.xs a.p.limits a.p.owners) a.xs (search (rules, length_mapped)))
+    (refl, down_none 32 (timed_at a.w a.positions a.xs a.p.limits a.p.owners) a.xs (search (rules, length_mapped)))
 
 pub overflow_mul-on : goal.overflow_mul-on
 overflow_mul-on c =
     let a = c.args in
-    let l = c.loop-left in
-    record { fits = small l.left l.on (on_at a.w a.positions a.isopen a.xs a.p.limits a.p.owners) c.loop-left-test.true l.invariant.0 l.invariant.1 }
+    let l = c.loop-n in
+    record { fits = small l.n l.on (on_at a.w a.positions a.isopen a.xs a.p.limits a.p.owners) (omega arith) (omega arith) l.invariant.0 }
 
 pub overflow_add-on : goal.overflow_add-on
 overflow_add-on c =
     let a = c.args in
-    let l = c.loop-left in
-    let on = c.if-l-ne-UNPROGRAMMED.a.on in
-    let e = small l.left l.on (on_at a.w a.positions a.isopen a.xs a.p.limits a.p.owners) c.loop-left-test.true l.invariant.0 l.invariant.1 in
+    let l = c.loop-n in
+    let on = c.match-from.a.on in
+    let e = small l.n l.on (on_at a.w a.positions a.isopen a.xs a.p.limits a.p.owners) (omega arith) (omega arith) l.invariant.0 in
     omega (arith, e, byte_digit on, digit_le on)
 
-pub loop-left-preserved : goal.loop-left-preserved
-loop-left-preserved c =
+pub loop-n-preserved : goal.loop-n-preserved
+loop-n-preserved c =
     let a = c.args in
-    let l = c.loop-left in
-    let n = l.left - 1 in
-    let o = c.if-l-ne-UNPROGRAMMED.a in
+    let l = c.loop-n in
+    let n = l.n - 1 in
+    let o = c.match-from.a in
     let program = get_or a.p.limits n past_limits in
     let owner = get_or a.p.owners n 0 in
     let r : (o.on ≡ on_at a.w a.positions a.isopen a.xs a.p.limits a.p.owners n) × (o.timed ≡ timed_at a.w a.positions a.xs a.p.limits a.p.owners n) =
-    elim c.if-l-ne-UNPROGRAMMED.branch [
-      | then-l-ne-UNPROGRAMMED w ↦ (
-        rw (w.a-is, w.output_after-a.ensures.0, w.group_open-group.ensures, w.group_place-position.ensures),
-        rw (w.a-is, w.output_after-a.ensures.1, w.group_place-position.ensures),
+    elim c.match-from.branch [
+      | in-Unprogrammed w ↦
+          off a.w program (of_group no_position a.positions owner) (of_group false a.isopen owner) (get_or a.xs n fresh_timed) n o (sym c.from.ensures ∙ w.in-Unprogrammed.is) w.a-is
+      | in_default w ↦ (
+        rw (w.a-is, w.output_after-a.ensures.0, w.of_group-isopen.ensures, w.of_group-position.ensures),
+        rw (w.a-is, w.output_after-a.ensures.1, w.of_group-position.ensures),
       )
-      | else-l-ne-UNPROGRAMMED w ↦
-          off a.w program (of_group no_position a.positions owner) (of_group false a.isopen owner) (get_or a.xs n fresh_timed) n o w.if-l-ne-UNPROGRAMMED.false w.a-is
     ]
     in (
-      omega arith,
-      rw (byte_digit, r.0, l.invariant.1) (packed_turn 32 l.left (on_at a.w a.positions a.isopen a.xs a.p.limits a.p.owners) (omega arith) (omega arith)),
-      down_more 32 l.left (timed_at a.w a.positions a.xs a.p.limits a.p.owners) l.timed _ (omega arith) (omega arith) l.invariant.2 r.1,
+      rw (byte_digit, r.0, l.invariant.0) (packed_turn 32 l.n (on_at a.w a.positions a.isopen a.xs a.p.limits a.p.owners) (omega arith) (omega arith)),
+      down_more 32 l.n (timed_at a.w a.positions a.xs a.p.limits a.p.owners) l.timed _ (omega arith) (omega arith) l.invariant.1 r.1,
     )
 
 pub returns : goal.returns
 unfolding rule_at timed_of
 returns c =
-    let l = c.loop-left in
-    let z : l.left ≡ 0 = omega arith in
-    (rw z at l.invariant.1, down_all 32 l.left _ l.timed z l.invariant.2)
+    let l = c.loop-n in
+    let z : l.n ≡ 0 = omega arith in
+    (rw z at l.invariant.0, down_all 32 l.n _ l.timed z l.invariant.1)

@@ -1,4 +1,4 @@
-use Prim.Native.Nat.{ℕ, ◌≤◌, ◌-◌}
+use Prim.Native.Nat.{ℕ, ◌-◌}
 use mathlib.Core.Bool.{Bool, false}
 use mathlib.Core.List.{List}
 use mathlib.Core.Path.{◌≡◌}
@@ -24,9 +24,6 @@ abbrev pub on_at : Conditions → List GroupPosition → List Bool → List Time
 on_at w positions isopen xs limits owners n =
     output_rule w (get_or limits n past_limits) (of_group no_position positions (get_or owners n 0)) (of_group false isopen (get_or owners n 0)) (ltb 0 (timed_at w positions xs limits owners n).left) n
 
-abbrev pub invariant-loop-left : goal.invariant-loop-left
-invariant-loop-left l =
-    (l.left ≤ 32) × (l.on ≡ packed (32 - l.left) l.left (on_at l.w l.positions l.isopen l.xs l.limits l.owners)) × FilledDown 32 l.left (timed_at l.w l.positions l.xs l.limits l.owners) l.timed
-
-abbrev pub decreases-loop-left : goal.decreases-loop-left
-decreases-loop-left l = l.left
+abbrev pub invariant-loop-n : goal.invariant-loop-n
+invariant-loop-n l =
+    (l.on ≡ packed (32 - l.n) l.n (on_at l.w l.positions l.isopen l.xs l.p.limits l.p.owners)) × FilledDown 32 l.n (timed_at l.w l.positions l.xs l.p.limits l.p.owners) l.timed

@@ -1,0 +1,16 @@
+-- `Moment::displaced` meets its contract: both shifts, then the position and the difference. Assumes nothing.
+use Prim.Native.Nat.{◌+◌}
+use mathlib.Core.Path.{◌≡◌, refl, sym, ◌∙◌}
+use lib.IntN.{sub_ℕ, ◌-ℤ◌}
+use Rattle.rules.specs.Motion.{c_value}
+use Rattle.rules.specs.Switches.{on_shift, off_shift}
+use Rattle.switch.specs.Parts.{shift_bias}
+use Rattle.switch.proofs.Advance.{one_bias}
+use Rattle.switch.proofs.Moment.displaced.Goals as goal
+
+pub returns : goal.returns
+returns c =
+    let x = c.args in
+    let apart : sub_ℕ c.shift-on.result c.shift-off.result ≡ on_shift (x.self.top + 1) (c_value x.self.c) x.l -ℤ off_shift (x.self.top + 1) (c_value x.self.c) x.l =
+    sym (one_bias c.shift-on.result c.shift-off.result shift_bias) ∙ rw (c.shift-on.ensures, c.shift-off.ensures) in
+    (refl, rw (c.taken_back.ensures, c.shift-on.ensures, c.count_at.ensures), rw (c.spread.ensures, apart))

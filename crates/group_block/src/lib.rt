@@ -7,8 +7,8 @@ ghost use Rattle.rules.specs.Variants as variants;
 ghost use Rattle.rules.specs.GroupWords as group;
 ghost use Rattle.group_block.specs.Blocks as blocks;
 
-use rules::variants::{real_count, type_of, virtual_count};
 use rules::{Group, IoType, Model, Pair};
+use std::array;
 use word::Layout;
 
 // Bits of a control word: FCITyp, GPTyp, GPUsed.
@@ -39,31 +39,14 @@ fn mode_number(control: u16) -> u16
     control / 256 % 8
 }
 
-// The type is real.
-fn is_real(t: IoType) -> bool
-    ensures { result ≡ group.same_type IoType.Real t }
-{
-    match t {
-        IoType::Real => true,
-        IoType::Virtual => false,
-    }
-}
-
-// Two types are the same.
-fn same_type(a: IoType, b: IoType) -> bool
-    ensures { result ≡ group.same_type a b }
-{
-    is_real(a) == is_real(b)
-}
-
 // The inputs and outputs of a type.
 #[tactic(auto, unfolding(rules::specs::Variants::io_count))]
 fn io_count(m: Model, t: IoType) -> u16
     ensures { result ≡ variants.io_count m t }
 {
     match t {
-        IoType::Real => real_count(m),
-        IoType::Virtual => virtual_count(m),
+        IoType::Real => m.count(IoType::Real),
+        IoType::Virtual => m.count(IoType::Virtual),
     }
 }
 
@@ -76,33 +59,25 @@ fn group_of(file: &[u16], n: u16) -> Group
     if !word::bit(control, USED) {
         return Group::NONE;
     }
-    let dwell = Pair {
-        on: group_word(file, n, 1),
-        off: group_word(file, n, 2),
-    };
     Group {
         used: true,
         isvirtual: word::bit(control, TYPE),
         firstvirtual: word::bit(control, FIRST_CYCLE),
         mode: mode_number(control),
         quantity: quantity(control),
-        dwell: dwell,
+        dwell: Pair {
+            on: group_word(file, n, 1),
+            off: group_word(file, n, 2),
+        },
         offset: group_word(file, n, 3),
     }
 }
 
 // The six groups of a file.
-#[tactic(auto, unfolding(rules::specs::Words::table))]
 pub fn groups_of(file: &[u16]) -> [Group; 6]
     ensures { result ≡ words.table 6 1 (group.group_of file.now) }
 {
-    let g1 = group_of(file, 1);
-    let g2 = group_of(file, 2);
-    let g3 = group_of(file, 3);
-    let g4 = group_of(file, 4);
-    let g5 = group_of(file, 5);
-    let g6 = group_of(file, 6);
-    [g1, g2, g3, g4, g5, g6]
+    array::from_fn(|k| group_of(file, k as u16 + 1))
 }
 
 // How many outputs of a type a group takes.
@@ -110,11 +85,11 @@ pub fn groups_of(file: &[u16]) -> [Group; 6]
 fn share(g: Group, t: IoType) -> u16
     ensures { result ≡ blocks.share_of t g }
 {
-    let kind = type_of(g.isvirtual);
-    if g.used & same_type(t, kind) {
-        return g.quantity;
+    if g.used && t == IoType::from(g.isvirtual) {
+        g.quantity
+    } else {
+        0
     }
-    0
 }
 
 // How many outputs of a type groups 1 to n take.
@@ -123,19 +98,18 @@ fn dealt_up_to(file: &[u16], t: IoType, n: u16) -> u32
     ensures { result ≡ group.dealt_up_to file.now t n }
 {
     let mut dealt: u32 = 0;
-    let mut k: u16 = 0;
-    while k < n {
-        k = k + 1;
-        dealt = dealt + share(group_of(file, k), t) as u32;
+    for k in 0..n {
+        dealt += share(group_of(file, k + 1), t) as u32;
     }
     dealt
 }
 
 // FCITyp 0 in Mode 5 on an 8511.
+#[tactic(auto, unfolding(rules::specs::Variants::io_count))]
 fn lacks_first_cycle(m: Model, control: u16) -> bool
     ensures { result ≡ group.lacks_first_cycle m control }
 {
-    (real_count(m) == 0) & (mode_number(control) == 5) & !word::bit(control, FIRST_CYCLE)
+    m.count(IoType::Real) == 0 && mode_number(control) == 5 && !word::bit(control, FIRST_CYCLE)
 }
 
 // Groups 1 to n take more outputs of a type than there are.
@@ -152,20 +126,12 @@ fn program_bad(m: Model, file: &[u16], n: u16) -> bool
 {
     let control = group_word(file, n, 0);
     let taken = quantity(control);
-    let kind = type_of(word::bit(control, TYPE));
-    (taken == 0)
-        | (16 < taken)
-        | (5 < mode_number(control))
-        | word::other_bit(control, Layout::GroupControl)
-        | lacks_first_cycle(m, control)
-        | too_many(m, file, kind, n)
-}
-
-// A word of three bits, bit 0 first.
-fn three_bits(a: bool, b: bool, c: bool) -> u16
-    ensures { result ≡ words.bits (a ∷ b ∷ c ∷ []) }
-{
-    a as u16 + 2 * (b as u16 + 2 * c as u16)
+    let kind = IoType::from(word::bit(control, TYPE));
+    !(1..=16).contains(&taken)
+        || 5 < mode_number(control)
+        || word::other_bit(control, Layout::GroupControl)
+        || lacks_first_cycle(m, control)
+        || too_many(m, file, kind, n)
 }
 
 // GOFErr 0, GPgErr 1, GCSErr 2 of group n; an unused group's words are ignored.
@@ -176,52 +142,47 @@ pub fn group_bits(m: Model, top: u16, file: &[u16], n: u16) -> u16
     if !word::bit(group_word(file, n, 0), USED) {
         return 0;
     }
-    let offset = top < group_word(file, n, 3);
-    let program = program_bad(m, file, n);
-    let channel = counts::pair_bad(top, group_word(file, n, 1), group_word(file, n, 2));
-    three_bits(offset, program, channel)
+    word::bits(
+        top < group_word(file, n, 3),
+        program_bad(m, file, n),
+        counts::pair_bad(top, group_word(file, n, 1), group_word(file, n, 2)),
+        false,
+        false,
+        false,
+    )
 }
 
 // The number of the group that takes output i of a type, counted from 0; 0 if none does.
 #[tactic(auto, unfolding(rules::specs::GroupWords::dealt_to))]
-fn dealt_to(groups: [Group; 6], t: IoType, i: u16) -> u16
-    ensures { result ≡ group.dealt_to t groups 1 i }
+fn dealt_to(groups: &[Group; 6], t: IoType, i: u16) -> u16
+    ensures { result ≡ group.dealt_to t groups.now 1 i }
 {
     let mut left = i;
-    let mut k: usize = 0;
-    while k < 6 {
-        let g = groups[k];
-        let taken = share(g, t);
-        k = k + 1;
+    for (k, g) in groups.iter().enumerate() {
+        let taken = share(*g, t);
         if left < taken {
-            return k as u16;
+            return k as u16 + 1;
         }
-        left = left - taken;
+        left -= taken;
     }
     0
 }
 
 // The owner of output n, counted from 0: 0 to 15 are real, 16 to 31 virtual.
 #[tactic(auto, unfolding(crate::specs::Blocks::owner_in))]
-fn owner(groups: [Group; 6], n: u16) -> u16
-    ensures { result ≡ blocks.owner_in groups n }
+fn owner(groups: &[Group; 6], n: u16) -> u16
+    ensures { result ≡ blocks.owner_in groups.now n }
 {
     if n < 16 {
-        return dealt_to(groups, IoType::Real, n);
+        dealt_to(groups, IoType::Real, n)
+    } else {
+        dealt_to(groups, IoType::Virtual, n - 16)
     }
-    dealt_to(groups, IoType::Virtual, n - 16)
 }
 
 // Outputs are dealt consecutively per type.
-#[tactic(auto, unfolding(rules::specs::Words::table))]
 pub fn owners_of(groups: [Group; 6]) -> [u16; 32]
     ensures { result ≡ group.owners_of groups }
 {
-    let mut owners: [u16; 32] = [0; 32];
-    let mut k: usize = 0;
-    while k < 32 {
-        owners[k] = owner(groups, k as u16);
-        k = k + 1;
-    }
-    owners
+    array::from_fn(|n| owner(&groups, n as u16))
 }

@@ -1,13 +1,15 @@
 // One limit block of M1: its checks, the bits of word 630, and the program that it gives. `top` is the scale factor less one.
 #![tactic(auto)]
 
-ghost use Rattle.std.specs.Prelude.{false, ◌&&◌, ◌||◌, [], ◌∷◌, ◌≡◌, ◌+◌, ◌-◌, leb, ltb, eqb, nat_abs};
+ghost use Rattle.std.specs.Prelude.{false, true, ◌&&◌, ◌||◌, [], ◌∷◌, ◌≡◌, ◌+◌, ◌-◌, ◌*◌, ◌<◌, leb, ltb, eqb, nat_abs, MatchOption};
 ghost use Rattle.rules.specs.Words.{word, bits, signed_word, some_of, table};
 ghost use Rattle.rules.specs.Switches as switches;
 ghost use Rattle.rules.specs.LimitWords as limit;
+ghost use Rattle.limit_block.specs.Kinds.{number_of};
 
-use rules::variants::{real_count, virtual_count};
-use rules::{Action, Advance, Limit, Model};
+use rules::{Action, Advance, IoType, Limit, Model, Pair};
+use std::array;
+use switch::Train;
 use word::Layout;
 
 // The words of a block.
@@ -16,25 +18,49 @@ const WORDS: usize = 19;
 // The bit of a control word that is ANDing with LS Enable.
 const ENABLE: u16 = 15;
 
-// ---- The checks
-
-// The magnitude of a word read as two's complement.
-#[tactic(auto, unfolding(rules::specs::Words::signed_word))]
-fn magnitude(w: u16) -> u16
-    ensures { result ≡ nat_abs (signed_word w) }
-{
-    if 32768 <= w {
-        return 65535 - w + 1;
-    }
-    w
+// The type that a control word names; no fourth is defined.
+#[derive(Clone, Copy, Debug, PartialEq, Eq)]
+enum Kind {
+    Normal,
+    Pulse,
+    Timed,
+    Undefined,
 }
 
-// Bit 2, advance: outside −999 to 999.
-#[tactic(auto, unfolding(rules::specs::LimitWords::advance_bad))]
+impl From<u16> for Kind {
+    ghost from_gives = { λ w k. limit.control_type w ≡ number_of k };
+
+    fn from(control: u16) -> Kind {
+        match control % 4 {
+            0 => Kind::Normal,
+            1 => Kind::Pulse,
+            2 => Kind::Timed,
+            _ => Kind::Undefined,
+        }
+    }
+}
+
+// The words of a block.
+#[derive(Clone, Copy, Debug, PartialEq, Eq)]
+pub struct Block {
+    pub words: [u16; 19],
+}
+
+// ---- The checks
+
+// Bit 2, advance, two's complement: outside −999 to 999.
+#[tactic(auto, unfolding(rules::specs::LimitWords::advance_bad, rules::specs::Words::signed_word))]
 fn advance_bad(w: u16) -> bool
     ensures { result ≡ limit.advance_bad w }
 {
-    999 < magnitude(w)
+    !(-999..=999).contains(&w.cast_signed())
+}
+
+// The detector of a control word.
+fn detector(control: u16) -> u16
+    ensures { result ≡ limit.control_detector control }
+{
+    control / 8192 % 4
 }
 
 // Bit 1, control: detector or type 3, or another bit set.
@@ -42,334 +68,309 @@ fn advance_bad(w: u16) -> bool
 fn control_bad(w: u16) -> bool
     ensures { result ≡ limit.control_bad w }
 {
-    if w / 8192 % 4 == 3 {
-        return true;
-    }
-    if w % 4 == 3 {
-        return true;
-    }
-    word::other_bit(w, Layout::LimitControl)
+    detector(w) == 3
+        || matches!(Kind::from(w), Kind::Undefined)
+        || word::other_bit(w, Layout::LimitControl)
 }
 
 // Q or K 0 or, with bit 3 clear, R < Q × K + Q − 1.
 #[tactic(auto, unfolding(rules::specs::LimitWords::pulse_bad))]
-pub fn pulse_bad(bit3: bool, r: u16, q: u16, k: u16) -> bool
-    ensures { result ≡ limit.pulse_bad bit3 r q k }
+pub fn pulse_bad(bit3: bool, t: Train) -> bool
+    ensures { result ≡ limit.pulse_bad bit3 t.length t.quantity t.count }
 {
-    if q == 0 {
-        return true;
-    }
-    if k == 0 {
-        return true;
-    }
-    if bit3 {
-        return false;
-    }
-    (r as u32) < q as u32 * k as u32 + q as u32 - 1
+    let Train {
+        length,
+        quantity,
+        count,
+    } = t;
+    quantity == 0
+        || count == 0
+        || !bit3
+            && u32::from(length) < u32::from(quantity) * u32::from(count) + u32::from(quantity) - 1
 }
 
 // A pulse starts no later than where the one before it ends.
-fn some_touch(r: u16, q: u16, k: u16) -> bool
-    ensures { result ≡ some_of (q - 1) 0 (λ j. leb (switches.pulse_start r q k (j + 1)) (switches.pulse_start r q k j + k)) }
+fn some_touch(t: Train) -> bool
+    ensures { result ≡ some_of (t.quantity - 1) 0 (λ j. leb (switches.pulse_start t.length t.quantity t.count (j + 1)) (switches.pulse_start t.length t.quantity t.count j + t.count)) }
 {
-    let gaps = word::one_less(q);
-    let mut j: u16 = 0;
-    while j < gaps {
-        let start = switch::pulse_start(r, q, k, j) as u64;
-        if switch::pulse_start(r, q, k, j + 1) as u64 <= start + k as u64 {
-            return true;
-        }
-        j = j + 1;
-    }
-    false
+    (0..t.quantity.saturating_sub(1)).any(|j| u64::from(t.start(j + 1))
+        <= u64::from(t.start(j)) + u64::from(t.count))
 }
 
 // Two pulses touch, the first one after the last, round the turn, too.
-pub fn pulses_touch(top: u16, r: u16, q: u16, k: u16) -> bool
-    ensures { result ≡ limit.pulses_touch (top + 1) r q k }
+#[tactic(auto, unfolding(rules::specs::LimitWords::pulses_touch))]
+pub fn pulses_touch(top: u16, t: Train) -> bool
+    ensures { result ≡ limit.pulses_touch (top + 1) t.length t.quantity t.count }
 {
-    if some_touch(r, q, k) {
-        return true;
-    }
-    let start = switch::pulse_start(r, q, k, word::one_less(q));
-    (top as u64) < start as u64 + k as u64
-}
-
-// The place of limit block n.
-fn block_start(n: u16) -> usize
-    ensures { result ≡ limit.block_at n }
-{
-    if n == 0 {
-        return 0;
-    }
-    WORDS * n as usize - 17
-}
-
-// The words of limit block n, n from 1.
-fn block(file: &[u16], n: u16) -> [u16; 19]
-    ensures { result ≡ limit.limit_block file.now n }
-{
-    let start = block_start(n);
-    let mut words = [0u16; WORDS];
-    let mut left = WORDS;
-    while 0 < left {
-        left = left - 1;
-        words[left] = word::word_at(file, start + left);
-    }
-    words
-}
-
-// A block's words are all 0.
-fn all_zero(b: [u16; 19]) -> bool
-    ensures { result ≡ limit.all_zero b }
-{
-    let mut k: usize = 0;
-    while k < WORDS {
-        if b[k] != 0 {
-            return false;
-        }
-        k = k + 1;
-    }
-    true
-}
-
-// Limit block n is of type timed.
-fn timed_block(file: &[u16], n: u16) -> bool
-    ensures { result ≡ eqb (limit.control_type (word file.now (limit.block_at n))) 2 }
-{
-    word::word_at(file, block_start(n)) % 4 == 2
-}
-
-// Output n, from 1, is at least the fifth timed of its kind: four of the lower ones of its sixteen are timed.
-fn fifth_timed(file: &[u16], n: u16) -> bool
-    ensures { result ≡ limit.fifth_timed file.now n }
-{
-    let lower = word::one_less(n) % 16;
-    let mut count: u16 = 0;
-    let mut m = n - lower;
-    while m < n {
-        count = count + timed_block(file, m) as u16;
-        m = m + 1;
-    }
-    4 <= count
-}
-
-// Some of the eight pairs of a normal switch's block is bad.
-fn some_pair_bad(top: u16, b: [u16; 19]) -> bool
-    ensures { result ≡ some_of 8 0 (limit.block_pair_bad (top + 1) b) }
-{
-    let mut k: usize = 0;
-    while k < 8 {
-        if counts::pair_bad(top, b[2 * k + 3], b[2 * k + 4]) {
-            return true;
-        }
-        k = k + 1;
-    }
-    false
-}
-
-// Bit 3, setpoint: of a normal switch any of the eight pairs, of the others the first.
-fn setpoint_bad(top: u16, b: [u16; 19]) -> bool
-    ensures { result ≡ limit.setpoint_bad (top + 1) b }
-{
-    if b[0] % 4 == 0 {
-        return some_pair_bad(top, b);
-    }
-    counts::pair_bad(top, b[3], b[4])
+    let last = t.start(t.quantity.saturating_sub(1));
+    some_touch(t) || u64::from(top) < u64::from(last) + u64::from(t.count)
 }
 
 // Bit 4 of a timed switch: the fifth of its kind, or its duration.
 fn duration_bad(fifth: bool, used: bool, t: u16) -> bool
     ensures { result ≡ fifth || (used && (eqb t 0 || ltb 9999 t)) }
 {
-    if fifth {
-        return true;
-    }
-    if used {
-        if t == 0 {
-            return true;
+    fifth || used && (t == 0 || 9999 < t)
+}
+
+impl Block {
+    // The words of limit block n, n from 1.
+    #[tactic(auto, unfolding(rules::specs::LimitWords::limit_block))]
+    fn at(file: &[u16], n: u16) -> Block
+        ensures { result.words ≡ limit.limit_block file.now n }
+    {
+        let start = block_start(n);
+        Block {
+            words: array::from_fn(|k| word::word_at(file, start + k)),
         }
-        return 9999 < t;
     }
-    false
-}
 
-// Bit 4, where bit 3 is `bit3`: the length of a train, a timed switch's duration or number.
-#[tactic(auto, unfolding(rules::specs::LimitWords::length_bad))]
-fn length_bad(top: u16, fifth: bool, bit3: bool, b: [u16; 19]) -> bool
-    ensures { result ≡ limit.length_bad (top + 1) fifth bit3 b }
-{
-    let used = counts::used_pair(b[3], b[4]);
-    if b[0] % 4 == 1 {
-        if used {
-            return pulse_bad(bit3, counts::ahead(top, b[3], b[4]), b[5], b[6]);
+    // The words are all 0.
+    #[tactic(auto, unfolding(rules::specs::LimitWords::all_zero))]
+    fn is_all_zero(self) -> bool
+        ensures { result ≡ limit.all_zero self.words }
+    {
+        self.words.iter().all(|&w| w == 0)
+    }
+
+    fn kind(self) -> Kind
+        ensures { limit.block_type self.words ≡ number_of result }
+    {
+        Kind::from(self.words[0])
+    }
+
+    fn is(self, kind: Kind) -> bool
+        ensures { result ≡ eqb (limit.block_type self.words) (number_of kind) }
+    {
+        self.kind() == kind
+    }
+
+    // Bit 2: either advance is bad.
+    fn advances_bad(self) -> bool
+        ensures { result ≡ (limit.advance_bad (word self.words 1) || limit.advance_bad (word self.words 2)) }
+    {
+        advance_bad(self.words[1]) || advance_bad(self.words[2])
+    }
+
+    // Pair k, from 0.
+    fn pair(self, k: u16) -> Pair
+        ensures { result ≡ record { on = word self.words (2 * k + 3); off = word self.words (2 * k + 4) } }
+    {
+        let at = 2 * k as usize + 3;
+        Pair {
+            on: word::word_at(&self.words, at),
+            off: word::word_at(&self.words, at + 1),
         }
-        return false;
     }
-    if b[0] % 4 == 2 {
-        return duration_bad(fifth, used, b[5]);
+
+    // Some of the eight pairs of a normal switch is bad.
+    fn some_pair_bad(self, top: u16) -> bool
+        ensures { result ≡ some_of 8 0 (limit.block_pair_bad (top + 1) self.words) }
+    {
+        (0..8).any(|k| self.pair_bad(top, k))
     }
-    false
+
+    #[tactic(auto, unfolding(rules::specs::LimitWords::block_pair_bad))]
+    fn pair_bad(self, top: u16, k: u16) -> bool
+        ensures { result ≡ limit.block_pair_bad (top + 1) self.words k }
+    {
+        let Pair { on, off } = self.pair(k);
+        counts::pair_bad(top, on, off)
+    }
+
+    // Bit 3, setpoint: of a normal switch any of the eight pairs, of the others the first.
+    #[tactic(auto, unfolding(rules::specs::LimitWords::setpoint_bad))]
+    fn setpoint_bad(self, top: u16) -> bool
+        ensures { result ≡ limit.setpoint_bad (top + 1) self.words }
+    {
+        match self.kind() {
+            Kind::Normal => self.some_pair_bad(top),
+            Kind::Pulse | Kind::Timed | Kind::Undefined => self.pair_bad(top, 0),
+        }
+    }
+
+    // The first pair is not 0/0.
+    fn is_used(self) -> bool
+        ensures { result ≡ limit.block_used self.words }
+    {
+        counts::used_pair(self.words[3], self.words[4])
+    }
+
+    // The train of a pulse switch.
+    fn train(self, top: u16) -> Train
+        ensures { result ≡ record { length = limit.block_length (top + 1) self.words; quantity = word self.words 5; count = word self.words 6 } }
+    {
+        Train {
+            length: counts::ahead(top, self.words[3], self.words[4]),
+            quantity: self.words[5],
+            count: self.words[6],
+        }
+    }
+
+    // Bit 4, where bit 3 is `bit3`: the length of a train, a timed switch's duration or number.
+    #[tactic(auto, unfolding(rules::specs::LimitWords::length_bad))]
+    fn length_bad(self, top: u16, fifth: bool, bit3: bool) -> bool
+        ensures { result ≡ limit.length_bad (top + 1) fifth bit3 self.words }
+    {
+        match self.kind() {
+            Kind::Pulse => self.is_used() && pulse_bad(bit3, self.train(top)),
+            Kind::Timed => duration_bad(fifth, self.is_used(), self.words[5]),
+            Kind::Normal | Kind::Undefined => false,
+        }
+    }
+
+    // Bit 5, two pulses touch, tested where bits 3 and 4 are clear.
+    #[tactic(auto, unfolding(rules::specs::LimitWords::touch_bad))]
+    fn touch_bad(self, top: u16, bit3: bool, bit4: bool) -> bool
+        ensures { result ≡ limit.touch_bad (top + 1) bit3 bit4 self.words }
+    {
+        match self.kind() {
+            Kind::Pulse => !(bit3 || bit4) && self.is_used() && pulses_touch(top, self.train(top)),
+            Kind::Normal | Kind::Timed | Kind::Undefined => false,
+        }
+    }
+
+    // Bits 1 to 5 of word 630; of type 3 only 1 and 2 are tested. `fifth` says that the output is at least the fifth timed of its kind.
+    pub fn bits(self, top: u16, fifth: bool) -> u16
+        ensures { result ≡ limit.block_bits (top + 1) fifth self.words }
+    {
+        let bit1 = control_bad(self.words[0]);
+        let bit2 = self.advances_bad();
+        if self.is(Kind::Undefined) {
+            return word::bits(false, bit1, bit2, false, false, false);
+        }
+        let bit3 = self.setpoint_bad(top);
+        let bit4 = self.length_bad(top, fifth, bit3);
+        let bit5 = self.touch_bad(top, bit3, bit4);
+        word::bits(false, bit1, bit2, bit3, bit4, bit5)
+    }
 }
 
-// Bit 5, two pulses touch, tested where bits 3 and 4 are clear.
-fn touch_bad(top: u16, bit3: bool, bit4: bool, b: [u16; 19]) -> bool
-    ensures { result ≡ limit.touch_bad (top + 1) bit3 bit4 b }
+// The place of limit block n.
+fn block_start(n: u16) -> usize
+    ensures { result ≡ limit.block_at n }
 {
-    if b[0] % 4 != 1 {
-        return false;
-    }
-    if bit3 {
-        return false;
-    }
-    if bit4 {
-        return false;
-    }
-    if counts::used_pair(b[3], b[4]) {
-        return pulses_touch(top, counts::ahead(top, b[3], b[4]), b[5], b[6]);
-    }
-    false
+    (WORDS * n as usize).saturating_sub(17)
 }
 
-// The word with these as its bits 1 to 5.
-fn error_word(bit1: bool, bit2: bool, bit3: bool, bit4: bool, bit5: bool) -> u16
-    ensures { result ≡ bits (false ∷ bit1 ∷ bit2 ∷ bit3 ∷ bit4 ∷ bit5 ∷ []) }
+// Limit block n is of type timed.
+fn timed_block(file: &[u16], n: u16) -> bool
+    ensures { result ≡ eqb (limit.control_type (word file.now (limit.block_at n))) 2 }
 {
-    2 * (bit1 as u16 + 2 * (bit2 as u16 + 2 * (bit3 as u16 + 2 * (bit4 as u16 + 2 * bit5 as u16))))
+    matches!(Kind::from(word::word_at(file, block_start(n))), Kind::Timed)
 }
 
-// Either of a block's two advances is bad.
-fn advances_bad(on: u16, off: u16) -> bool
-    ensures { result ≡ (limit.advance_bad on || limit.advance_bad off) }
+// Output n, from 1, is at least the fifth timed of its kind: four of the lower ones of its sixteen are timed.
+#[tactic(auto, unfolding(rules::specs::LimitWords::fifth_timed))]
+pub fn fifth_timed(file: &[u16], n: u16) -> bool
+    ensures { result ≡ limit.fifth_timed file.now n }
 {
-    if advance_bad(on) {
-        return true;
-    }
-    advance_bad(off)
-}
-
-// Bits 1 to 5 of word 630 for a block; of type 3 only 1 and 2 are tested. `fifth` says that the output is at least the fifth timed of its kind.
-fn block_bits(top: u16, fifth: bool, b: [u16; 19]) -> u16
-    ensures { result ≡ limit.block_bits (top + 1) fifth b }
-{
-    let bit1 = control_bad(b[0]);
-    let bit2 = advances_bad(b[1], b[2]);
-    if b[0] % 4 == 3 {
-        return error_word(bit1, bit2, false, false, false);
-    }
-    let bit3 = setpoint_bad(top, b);
-    let bit4 = length_bad(top, fifth, bit3, b);
-    let bit5 = touch_bad(top, bit3, bit4, b);
-    error_word(bit1, bit2, bit3, bit4, bit5)
-}
-
-// The same for limit block n of a file.
-pub fn bits_of(top: u16, file: &[u16], n: u16) -> u16
-    ensures { result ≡ limit.block_bits (top + 1) (limit.fifth_timed file.now n) (limit.limit_block file.now n) }
-{
-    block_bits(top, fifth_timed(file, n), block(file, n))
+    let lower = n.saturating_sub(1) % 16;
+    4 <= (n - lower..n).filter(|&m| timed_block(file, m)).count()
 }
 
 // ---- The decoding
 
 // The module has output n, from 0.
-#[tactic(auto, unfolding(rules::specs::Switches::present))]
+#[tactic(auto, unfolding(rules::specs::Switches::present, rules::specs::Variants::io_count))]
 fn present(m: Model, n: u16) -> bool
     ensures { result ≡ switches.present m n }
 {
     if n < 16 {
-        return n < real_count(m);
+        n < m.count(IoType::Real)
+    } else {
+        n - 16 < m.count(IoType::Virtual)
     }
-    n - 16 < virtual_count(m)
-}
-
-// Output n, from 1, is missing, or its block is all zero.
-pub fn unread(m: Model, file: &[u16], n: u16) -> bool
-    ensures { result ≡ limit.unread m file.now n }
-{
-    if present(m, word::one_less(n)) {
-        return all_zero(block(file, n));
-    }
-    true
 }
 
 // An advance word: two's complement, in tenths of a millisecond.
+#[tactic(auto, unfolding(rules::specs::Words::signed_word))]
 fn advance_of(w: u16) -> Advance
     ensures { result ≡ limit.advance_of w }
 {
+    let tenths = w.cast_signed();
     Advance {
-        negative: 32768 <= w,
-        tenths: magnitude(w),
+        negative: tenths < 0,
+        tenths: tenths.unsigned_abs(),
     }
 }
 
-// The type of a block's switch, with what figure 5.9 puts after the pair.
-#[tactic(auto, unfolding(rules::specs::LimitWords::action_of))]
-fn action_of(b: [u16; 19]) -> Action
-    ensures { result ≡ limit.action_of b }
-{
-    if b[0] % 4 == 0 {
-        return Action {
-            kind: 1,
-            quantity: 0,
-            count: 0,
-            duration: 0,
-        };
+impl Block {
+    // The block of output n, from 1, that is read: none of a missing output, and none that is all zero.
+    #[tactic(auto, unfolding(rules::specs::LimitWords::unread))]
+    pub fn read(m: Model, file: &[u16], n: u16) -> Option<Block>
+        ensures { MatchOption result (limit.unread m file.now n ≡ true) (λ b. (limit.unread m file.now n ≡ false) × (b.words ≡ limit.limit_block file.now n)) }
+    {
+        if !present(m, n.saturating_sub(1)) {
+            return None;
+        }
+        let block = Block::at(file, n);
+        if block.is_all_zero() {
+            None
+        } else {
+            Some(block)
+        }
     }
-    if b[0] % 4 == 1 {
-        return Action {
-            kind: 2,
-            quantity: b[5],
-            count: b[6],
-            duration: 0,
-        };
-    }
-    if b[0] % 4 == 2 {
-        return Action {
-            kind: 3,
-            quantity: 0,
-            count: 0,
-            duration: b[5],
-        };
-    }
-    Action::UNPROGRAMMED
-}
 
-// The sixteen setpoints of a normal switch; the first two of the others.
-#[tactic(auto, unfolding(rules::specs::Words::table))]
-fn setpoints_of(b: [u16; 19]) -> [u16; 16]
-    ensures { result ≡ table 16 0 (limit.setpoint_of b) }
-{
-    if b[0] % 4 != 0 {
-        return [b[3], b[4], 0, 0, 0, 0, 0, 0, 0, 0, 0, 0, 0, 0, 0, 0];
+    // The type of the switch, with what figure 5.9 puts after the pair.
+    #[tactic(auto, unfolding(rules::specs::LimitWords::action_of))]
+    fn action(self) -> Action
+        ensures { result ≡ limit.action_of self.words }
+    {
+        let none = Action::UNPROGRAMMED;
+        match self.kind() {
+            Kind::Normal => Action { kind: 1, ..none },
+            Kind::Pulse => Action {
+                kind: 2,
+                quantity: self.words[5],
+                count: self.words[6],
+                ..none
+            },
+            Kind::Timed => Action {
+                kind: 3,
+                duration: self.words[5],
+                ..none
+            },
+            Kind::Undefined => none,
+        }
     }
-    [
-        b[3], b[4], b[5], b[6], b[7], b[8], b[9], b[10], b[11], b[12], b[13], b[14], b[15], b[16],
-        b[17], b[18],
-    ]
-}
 
-// The program that a block gives.
-#[tactic(auto, unfolding(rules::specs::LimitWords::limit_of_block))]
-fn limit_of_block(b: [u16; 19]) -> Limit
-    ensures { result ≡ limit.limit_of_block b }
-{
-    Limit {
-        action: action_of(b),
-        enable: word::bit(b[0], ENABLE),
-        detector: b[0] / 8192 % 4,
-        onadvance: advance_of(b[1]),
-        offadvance: advance_of(b[2]),
-        setpoints: setpoints_of(b),
+    // The sixteen setpoints of a normal switch; the first two of the others.
+    fn setpoints(self) -> [u16; 16]
+        ensures { result ≡ table 16 0 (limit.setpoint_of self.words) }
+    {
+        let normal = self.is(Kind::Normal);
+        array::from_fn(|k| if normal || k < 2 {
+            self.words[k + 3]
+        } else {
+            0
+        })
+    }
+
+    // The program that the block gives.
+    #[tactic(auto, unfolding(rules::specs::LimitWords::limit_of_block))]
+    fn limit(self) -> Limit
+        ensures { result ≡ limit.limit_of_block self.words }
+    {
+        let control = self.words[0];
+        Limit {
+            action: self.action(),
+            enable: word::bit(control, ENABLE),
+            detector: detector(control),
+            onadvance: advance_of(self.words[1]),
+            offadvance: advance_of(self.words[2]),
+            setpoints: self.setpoints(),
+        }
     }
 }
 
 // The program of output n, from 1, that a file gives.
+#[tactic(auto, unfolding(rules::specs::LimitWords::limit_from))]
 pub fn limit_from(m: Model, file: &[u16], n: u16) -> Limit
     ensures { result ≡ limit.limit_from m file.now n }
 {
-    if unread(m, file, n) {
-        return Limit::NONE;
+    match Block::read(m, file, n) {
+        Some(block) => block.limit(),
+        None => Limit::NONE,
     }
-    limit_of_block(block(file, n))
 }

@@ -1,6 +1,6 @@
 -- Laws of the setup words. Assumes nothing.
 use Prim.Native.Nat.{ℕ, ◌+◌, ◌-◌, ◌%◌}
-use mathlib.Core.Bool.{Bool, true, false, not, xor}
+use mathlib.Core.Bool.{Bool, true, false, not, xor, beq}
 use mathlib.Core.Path.{◌≡◌, refl, sym, ap, ◌∙◌}
 use native.Mathlib.Nat.{mul-zero, mod-zero}
 use native.Mathlib.Omega.{arith}
@@ -11,16 +11,13 @@ use Rattle.rules.specs.Motion.{turned, scaled_position}
 use Rattle.rules.specs.SetupWords.{preset_offset}
 use Rattle.rules.proofs.Laws.{modulo_natural}
 
--- the exclusive or, by its first argument
-pub xor_true : (b : Bool) → not b ≡ xor true b
+-- the exclusive or is that two bits differ
+pub xor_differs : (a b : Bool) → xor a b ≡ not (beq a b)
 unfolding xor
-xor_true true = refl
-xor_true false = refl
-
-pub xor_false : (b : Bool) → b ≡ xor false b
-unfolding xor
-xor_false true = refl
-xor_false false = refl
+xor_differs true true = refl
+xor_differs true false = refl
+xor_differs false true = refl
+xor_differs false false = refl
 
 -- the offset that gives the preset, as the code works it out; a scale factor of 0 is never in force
 pub preset_zero : (reversed : Bool) (preset raw : ℕ) → preset_offset 0 reversed preset raw ≡ preset

@@ -2,7 +2,6 @@
 #![tactic(auto)]
 
 ghost use Rattle.std.specs.Prelude.{◌≡◌, ◌-◌, leb};
-ghost use Rattle.std.specs.Bool.{xor};
 ghost use Rattle.rules.specs.Words.{word, bit};
 ghost use Rattle.rules.specs.SetupWords as setup;
 
@@ -33,10 +32,7 @@ const SF_MOST: u16 = 1024;
 fn sf_bad(sf: u16) -> bool
     ensures { result ≡ setup.sf_bad sf }
 {
-    if sf < 2 {
-        return true;
-    }
-    SF_MOST < sf
+    !(2..=SF_MOST).contains(&sf)
 }
 
 // What preset and offset are judged against.
@@ -44,27 +40,15 @@ fn sf_bad(sf: u16) -> bool
 fn sf_judged(sf: u16) -> u16
     ensures { result ≡ setup.sf_judged sf }
 {
-    if sf_bad(sf) {
-        return SF_MOST;
-    }
-    sf
+    if sf_bad(sf) { SF_MOST } else { sf }
 }
 
 // MD1Err, MD2Err: a setpoint over 32,767, or equal and not zero.
 #[tactic(auto, unfolding(rules::specs::SetupWords::detector_bad))]
-fn detector_bad(low: u16, high: u16) -> bool
-    ensures { result ≡ setup.detector_bad low high }
+fn detector_bad(d: Detector) -> bool
+    ensures { result ≡ setup.detector_bad d.low d.high }
 {
-    if 32767 < low {
-        return true;
-    }
-    if 32767 < high {
-        return true;
-    }
-    if low == high {
-        return low != 0;
-    }
-    false
+    32767 < d.low || 32767 < d.high || (d.low == d.high && d.low != 0)
 }
 
 // TSErr: a scalar outside its range.
@@ -72,16 +56,7 @@ fn detector_bad(low: u16, high: u16) -> bool
 fn scalars_bad(multiplier: u16, divisor: u16, code: u16) -> bool
     ensures { result ≡ setup.scalars_bad multiplier divisor code }
 {
-    if 1100 < multiplier {
-        return true;
-    }
-    if divisor == 0 {
-        return true;
-    }
-    if 63 < divisor {
-        return true;
-    }
-    3 < code
+    1100 < multiplier || !(1..=63).contains(&divisor) || 3 < code
 }
 
 // A reserved bit of the command word, or a nonzero reserved word.
@@ -89,10 +64,18 @@ fn scalars_bad(multiplier: u16, divisor: u16, code: u16) -> bool
 fn setup_reserved(file: &[u16]) -> bool
     ensures { result ≡ setup.setup_reserved file.now }
 {
-    if word::other_bit(word::word_at(file, COMMAND), Layout::SetupCommand) {
-        return true;
+    word::other_bit(word::word_at(file, COMMAND), Layout::SetupCommand)
+        || word::any_word(file, 12, 19)
+}
+
+// The detector with its setpoints at these places: words 4 and 5, and 6 and 7.
+fn detector(file: &[u16], low: usize, high: usize) -> Detector
+    ensures { (result.low ≡ word file.now low) × (result.high ≡ word file.now high) }
+{
+    Detector {
+        low: word::word_at(file, low),
+        high: word::word_at(file, high),
     }
-    word::any_word(file, 12, 19)
 }
 
 // The scale factor fails its check.
@@ -107,13 +90,6 @@ fn too_great(file: &[u16], at: usize) -> bool
     ensures { result ≡ leb (setup.sf_judged (word file.now 1)) (word file.now at) }
 {
     sf_judged(word::word_at(file, 1)) <= word::word_at(file, at)
-}
-
-// The detector with its setpoints at these places fails its check.
-fn detector_fails(file: &[u16], low: usize, high: usize) -> bool
-    ensures { result ≡ setup.detector_bad (word file.now low) (word file.now high) }
-{
-    detector_bad(word::word_at(file, low), word::word_at(file, high))
 }
 
 // The scalars fail their check.
@@ -136,14 +112,15 @@ pub fn setup_errors(file: &[u16]) -> u16
         sf_fails(file),
         too_great(file, 2),
         too_great(file, 3),
-        detector_fails(file, 4, 5),
-        detector_fails(file, 6, 7),
+        detector_bad(detector(file, 4, 5)),
+        detector_bad(detector(file, 6, 7)),
         scalars_fail(file),
     );
     if setup_reserved(file) {
-        return failing + word::RESERVED_STATUS;
+        failing + word::RESERVED_STATUS
+    } else {
+        failing
     }
-    failing
 }
 
 // ---- The setup
@@ -169,46 +146,27 @@ fn flag(file: &[u16], n: u16) -> bool
 }
 
 // The offset in force: the words', or with the Preset bit the one that gives the preset.
+#[tactic(auto, unfolding(rules::specs::SetupWords::setup_of))]
 fn offset_of(file: &[u16], raw: u16) -> u16
     ensures { result ≡ (setup.setup_of file.now raw).offset }
 {
     if flag(file, PRESET) {
-        return preset_offset(
+        preset_offset(
             word::word_at(file, 1),
             flag(file, DIRECTION),
             word::word_at(file, 2),
             raw,
-        );
+        )
+    } else {
+        word::word_at(file, 3)
     }
-    word::word_at(file, 3)
 }
 
 // The word at a place, less one.
 fn less_one(file: &[u16], at: usize) -> u16
     ensures { result ≡ word file.now at - 1 }
 {
-    word::one_less(word::word_at(file, at))
-}
-
-// The first detector, of words 4 and 5, and the second, of words 6 and 7.
-#[tactic(auto, unfolding(rules::specs::SetupWords::setup_of))]
-fn first_detector(file: &[u16]) -> Detector
-    ensures { result ≡ (setup.setup_of file.now 0).md1 }
-{
-    Detector {
-        low: word::word_at(file, 4),
-        high: word::word_at(file, 5),
-    }
-}
-
-#[tactic(auto, unfolding(rules::specs::SetupWords::setup_of))]
-fn second_detector(file: &[u16]) -> Detector
-    ensures { result ≡ (setup.setup_of file.now 0).md2 }
-{
-    Detector {
-        low: word::word_at(file, 6),
-        high: word::word_at(file, 7),
-    }
+    word::word_at(file, at).saturating_sub(1)
 }
 
 // The scalars of the words 8 to 10.
@@ -224,12 +182,10 @@ fn scalars_of(file: &[u16]) -> Scalars
 }
 
 // The setup that a file's words give, where the last raw is `raw`.
+#[tactic(auto, unfolding(rules::specs::SetupWords::setup_of))]
 pub fn setup_of(file: &[u16], raw: u16) -> Setup
     ensures { result ≡ setup.setup_of file.now raw }
 {
-    let md1 = first_detector(file);
-    let md2 = second_detector(file);
-    let scalars = scalars_of(file);
     Setup {
         top: less_one(file, 1),
         preset: word::word_at(file, 2),
@@ -238,34 +194,23 @@ pub fn setup_of(file: &[u16], raw: u16) -> Setup
         fast: flag(file, RESPONSE),
         interrupt: flag(file, INTERRUPT),
         independent: flag(file, INDEPENDENT),
-        md1: md1,
-        md2: md2,
-        scalars: scalars,
+        md1: detector(file, 4, 5),
+        md2: detector(file, 6, 7),
+        scalars: scalars_of(file),
         states: word::word_at(file, 11),
     }
 }
 
 // ---- The programming that it brings
 
-// One is true and the other is not.
-fn differ(a: bool, b: bool) -> bool
-    ensures { result ≡ xor a b }
-{
-    if a { !b } else { b }
-}
-
 // A changed scale factor or mode drops group and limit programs.
+#[tactic(auto, using(crate::proofs::Laws::xor_differs), unfolding(rules::specs::SetupWords::with_setup))]
 pub fn with_setup(p: Programming, u: Setup) -> Programming
     ensures { result ≡ setup.with_setup p u }
 {
-    let v = p.setup;
-    if v.top != u.top {
-        return Programming::none(u);
+    if p.setup.top != u.top || p.setup.independent != u.independent {
+        Programming::none(u)
+    } else {
+        Programming { setup: u, ..p }
     }
-    if differ(v.independent, u.independent) {
-        return Programming::none(u);
-    }
-    let mut n = p;
-    n.setup = u;
-    n
 }

@@ -6,8 +6,5 @@ use Rattle.group_block.proofs.dealt_up_to.Goals as goal
 pub loop-k-preserved : goal.loop-k-preserved
 loop-k-preserved c =
     let a = c.args in
-    let l = c.loop-k in (
-      omega arith,
-      rw (c.share.ensures, c.group_of.ensures, l.invariant.1) (dealt_more a.file.now a.t l.k),
-      omega arith,
-    )
+    let l = c.loop-k in
+    (rw (c.share.ensures, c.group_of.ensures, l.invariant.0) (dealt_more a.file.now a.t l.k), omega arith)

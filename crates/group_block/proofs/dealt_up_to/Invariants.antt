@@ -1,10 +1,7 @@
-use Prim.Native.Nat.{◌-◌, ◌*◌, ◌≤◌}
+use Prim.Native.Nat.{◌*◌, ◌≤◌}
 use mathlib.Core.Path.{◌≡◌}
 use Rattle.rules.specs.GroupWords.{dealt_up_to}
 use Rattle.group_block.proofs.dealt_up_to.Given as goal
 
 abbrev pub invariant-loop-k : goal.invariant-loop-k
-invariant-loop-k l = (l.k ≤ l.n) × (l.dealt ≡ dealt_up_to l.file l.t l.k) × (l.dealt ≤ 65535 * l.k)
-
-abbrev pub decreases-loop-k : goal.decreases-loop-k
-decreases-loop-k l = l.n - l.k
+invariant-loop-k l = (l.dealt ≡ dealt_up_to l.file l.t l.k) × (l.dealt ≤ 65535 * l.k)

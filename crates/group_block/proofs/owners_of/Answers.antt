@@ -1,27 +1,11 @@
--- `group_block::owners_of` meets its contract: one output more at each turn. Assumes nothing.
-use Prim.Native.Nat.{◌+◌}
-use mathlib.Core.Path.{◌≡◌, sym, ◌∙◌}
-use native.Mathlib.Omega.{arith}
-use lib.ListN.{length-set}
-use lib.Seq.{take-suc-set, take_all}
-use native.Mathlib.Numerals.{add-one}
+-- `group_block::owners_of` meets its contract: output by output. Assumes nothing.
+use Rattle.std.proofs.Common.{◌∙◌, ap, arith, rules}
+use Rattle.word.proofs.Tables.{from_fn_is}
 use Rattle.group_block.specs.Blocks.{owner_in}
-use Rattle.rules.proofs.Packing.{table_more}
 use Rattle.group_block.proofs.Laws.{owners_table}
 use Rattle.group_block.proofs.owners_of.Goals as goal
 
-pub loop-k-preserved : goal.loop-k-preserved
-loop-k-preserved c =
-    let l = c.loop-k in
-    let z : 0 + l.k ≡ l.k = omega arith in (
-      omega arith,
-      simp length-set l.invariant.1,
-      rw (add-one l.k, take-suc-set l.owners l.k c.owner.result (omega (arith, l.invariant.1)), l.invariant.2, c.owner.ensures)
-          (rw z at (table_more l.k 0 (owner_in c.args.groups))),
-    )
-
 pub returns : goal.returns
 returns c =
-    let l = c.loop-k in
-    let e : l.k ≡ 32 = omega arith in
-    sym (take_all 32 l.owners (omega (arith, l.invariant.1))) ∙ rw e at l.invariant.2 ∙ owners_table c.args.groups
+    let f = owner_in c.args.groups in
+    from_fn_is _ _ c.from_fn.result f 32 (λ k y q b h. search rules) c.from_fn.ensures.items 0 f (λ k. ap f (omega arith)) ∙ owners_table c.args.groups

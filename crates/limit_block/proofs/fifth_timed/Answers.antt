@@ -1,35 +1,21 @@
--- `limit_block::fifth_timed` meets its contract. The invariant: the count so far and the timed blocks from m on make the whole. Assumes nothing.
-use Prim.Native.Nat.{◌+◌, ◌-◌, ◌%◌}
-use mathlib.Core.Path.{◌≡◌, sym, ap, ◌∙◌}
-use native.Mathlib.Nat.{add-zero}
-use native.Mathlib.Omega.{arith}
-use lib.Dec.{leb}
-use Rattle.rules.specs.Words.{digit, count_of}
-use Rattle.rules.specs.LimitWords.{fifth_timed}
-use Rattle.word.proofs.Laws.{byte_digit, byte_small}
-use Rattle.switch.proofs.Ranges.{count_turn}
-use Rattle.limit_block.proofs.fifth_timed.Invariants.{timed}
+-- `limit_block::fifth_timed` meets its contract: the timed blocks before it. Assumes nothing.
+use Rattle.std.proofs.Common.{ℕ, ◌-◌, ◌%◌, Bool, ◌≡◌, ap, ◌∙◌, arith, rules, tests}
+use Rattle.std.proofs.lemmas.Iterator.{YieldsList-from_range}
+use Rattle.std.proofs.lemmas.Iterator.Consumers.{YieldsList-from_filter, count_from_yields_List}
+use lib.Dec.{leb, eqb}
+use Rattle.rules.specs.Words.{word}
+use Rattle.rules.specs.LimitWords.{block_at, control_type, fifth_timed}
+use Rattle.word.proofs.Tables.{count_filter}
 use Rattle.limit_block.proofs.fifth_timed.Goals as goal
 
-pub overflow_add-count : goal.overflow_add-count
-overflow_add-count c = omega (arith, byte_small c.timed_block.result)
-
-pub loop-m-preserved : goal.loop-m-preserved
-loop-m-preserved c =
-    let l = c.loop-m in
-    let x = c.args in
-    let d = byte_digit c.timed_block.result ∙ ap (λ b. digit b) c.timed_block.ensures in
-    (omega arith, omega arith, omega (arith, byte_small c.timed_block.result), omega (arith, l.invariant.3, d, count_turn x.n l.m (timed x.file.now) (omega arith)))
-
 pub returns : goal.returns
-unfolding fifth_timed count_of
+unfolding fifth_timed
 returns c =
-    let l = c.loop-m in
-    let x = c.args in
-    let r = c.one_less-lower.result in
-    let low : r ≡ x.n - 1 = c.one_less-lower.ensures in
-    let none : x.n - l.m ≡ 0 = omega arith in
-    let first : x.n - r % 16 ≡ x.n - (x.n - 1) % 16 = rw low in
-    let some : x.n - (x.n - (x.n - 1) % 16) ≡ (x.n - 1) % 16 = omega arith in
-    let whole : count_of ((x.n - 1) % 16) (x.n - (x.n - 1) % 16) (timed x.file.now) ≡ l.count + 0 = rw (first, some, none) at l.invariant.3 in
-    ap (λ n. leb 4 n) (sym (whole ∙ add-zero l.count))
+    let a = c.args in
+    let lower = (a.n - 1) % 16 in
+    let timed : ℕ → Bool = λ k. eqb (control_type (word a.file.now (block_at k))) 2 in
+    let low : c.saturating_sub-lower.result % 16 ≡ lower = ap (λ n. n % 16) c.saturating_sub-lower.ensures in
+    ap (λ n. leb 4 n)
+    (count_from_yields_List c.filter.result _ c.count.ensures.ran
+    (YieldsList-from_filter _ timed (YieldsList-from_range (a.n - lower) a.n lower (cc low) (omega arith)) c.filter.ensures.closure (λ x b q k. search (rules, tests)))
+    ∙ count_filter lower (a.n - lower) timed)

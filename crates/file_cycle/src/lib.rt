@@ -1,18 +1,19 @@
 // The programming cycle that takes a file, one for its three kinds: what each kind has of its own is a match on the kind.
 #![tactic(auto)]
 
-ghost use Rattle.std.specs.Prelude.{◌≡◌, cond, [], length};
+ghost use Rattle.std.specs.Prelude.{◌≡◌, cond, eqb, [], ◌∷◌, ◌++◌, map, replicate, length};
+ghost use Rattle.rules.specs.declared.GroupPosition.{GroupPosition};
 ghost use Rattle.rules.specs.Words.{stored_at};
 ghost use Rattle.rules.specs.Cycle as cycle;
 ghost use Rattle.rules.specs.FileCycle as rule;
 ghost use Rattle.rules.specs.Card as card;
 
 use cycle::{acts, finished, idle_cycle, judged, stands, turned_away, underway};
-use rules::variants::model_of;
 use rules::{
-    Configuration, Cycle, CycleResult, Decision, FileCycle, GroupPosition, GroupState, Module,
-    Programming, Refusal, SinceStart, TimedState,
+    Configuration, Cycle, CycleResult, Decision, FileCycle, GroupPosition, GroupState, Model,
+    Module, Programming, Refusal, SinceStart, TimedState,
 };
+use word::Failing;
 
 // ClrErr, a bit of the command word.
 const CLEAR: u16 = 0;
@@ -33,8 +34,7 @@ pub fn file_length(kind: FileCycle) -> usize
     ensures { result ≡ rule.file_length kind }
 {
     match kind {
-        FileCycle::SetupCycle => Module::M0_WORDS,
-        FileCycle::GroupCycle => Module::M0_WORDS,
+        FileCycle::SetupCycle | FileCycle::GroupCycle => Module::M0_WORDS,
         FileCycle::LimitCycle => Module::M1_WORDS,
     }
 }
@@ -45,8 +45,7 @@ fn length_refusal(kind: FileCycle) -> Refusal
     ensures { result ≡ rule.length_refusal kind }
 {
     match kind {
-        FileCycle::SetupCycle => Refusal::M0Length,
-        FileCycle::GroupCycle => Refusal::M0Length,
+        FileCycle::SetupCycle | FileCycle::GroupCycle => Refusal::M0Length,
         FileCycle::LimitCycle => Refusal::M1Length,
     }
 }
@@ -92,41 +91,26 @@ fn data_refusal(kind: FileCycle) -> Refusal
 fn barred(kind: FileCycle, g: Configuration) -> bool
     ensures { result ≡ rule.barred kind g }
 {
-    let e = g.errors;
-    let p = g.programming;
-    let u = p.setup;
     match kind {
-        FileCycle::SetupCycle => stands(e),
-        FileCycle::GroupCycle => stands(e) | u.independent,
-        FileCycle::LimitCycle => stands(e),
+        FileCycle::SetupCycle | FileCycle::LimitCycle => stands(g.errors),
+        FileCycle::GroupCycle => stands(g.errors) || g.programming.setup.independent,
     }
 }
 
-// The check's word, 0 where the file passes.
-#[tactic(auto, unfolding(rules::specs::FileCycle::file_errors))]
-fn file_errors(kind: FileCycle, g: Configuration, file: &[u16]) -> u16
-    ensures { result ≡ rule.file_errors kind g file.now }
+// What the check finds: its word, 0 where the file passes, and the failing group or output that it is of.
+#[tactic(auto, unfolding(rules::specs::FileCycle::file_errors, rules::specs::FileCycle::failing))]
+fn check(kind: FileCycle, g: Configuration, file: &[u16]) -> Failing
+    ensures errors { result.errors ≡ rule.file_errors kind g file.now }
+    ensures number { result.number ≡ rule.failing kind g file.now }
 {
     let p = g.programming;
-    let u = p.setup;
     match kind {
-        FileCycle::SetupCycle => setup::setup_errors(file),
-        FileCycle::GroupCycle => groups::group_errors(model_of(g.model), u.top, file),
-        FileCycle::LimitCycle => limits::limit_errors(model_of(g.model), p, file),
-    }
-}
-
-// The failing group or output that it is of.
-#[tactic(auto, unfolding(rules::specs::FileCycle::failing))]
-fn failing(kind: FileCycle, g: Configuration, file: &[u16]) -> u16
-    ensures { result ≡ rule.failing kind g file.now }
-{
-    let p = g.programming;
-    let u = p.setup;
-    match kind {
-        FileCycle::SetupCycle => 0,
-        FileCycle::GroupCycle => groups::failing_group(model_of(g.model), u.top, file),
-        FileCycle::LimitCycle => limits::failing_limit(model_of(g.model), p, file),
+        FileCycle::SetupCycle => Failing {
+            errors: setup::setup_errors(file),
+            number: 0,
+        },
+        FileCycle::GroupCycle => groups::failing(Model::from(g.model), p.setup.top, file),
+        FileCycle::LimitCycle => limits::failing(Model::from(g.model), p, file),
     }
 }
 
@@ -141,24 +125,21 @@ fn brought(kind: FileCycle, g: Configuration, file: &[u16]) -> Programming
         FileCycle::GroupCycle => groups::with_groups(p, group_block::groups_of(file)),
         FileCycle::LimitCycle => limits::with_limits(
             p,
-            limits::limits_from(model_of(g.model), file),
+            limits::limits_from(Model::from(g.model), file),
         ),
     }
 }
 
-// A group start.
+// A group start. A function of its own, as the next: as arms of `start_of` they take 4,000 instructions a cycle and 5,700 bytes of stack more.
 #[tactic(auto, unfolding(rules::specs::Card::group_start))]
 fn group_start(x: SinceStart) -> SinceStart
     ensures { result ≡ card.group_start x }
 {
-    let g = GroupState::FRESH;
-    let t = TimedState::FRESH;
-    let groups = [g; 6];
-    let timed = [t; 32];
-    let mut n = x;
-    n.groups = groups;
-    n.timed = timed;
-    n
+    SinceStart {
+        groups: [GroupState::FRESH; 6],
+        timed: [TimedState::FRESH; 32],
+        ..x
+    }
 }
 
 // An accepted limit cycle is a start for the timed switches.
@@ -166,11 +147,10 @@ fn group_start(x: SinceStart) -> SinceStart
 fn limit_start(x: SinceStart) -> SinceStart
     ensures { result ≡ card.limit_start x }
 {
-    let t = TimedState::FRESH;
-    let timed = [t; 32];
-    let mut n = x;
-    n.timed = timed;
-    n
+    SinceStart {
+        timed: [TimedState::FRESH; 32],
+        ..x
+    }
 }
 
 // The start that an accepted cycle is.
@@ -187,97 +167,56 @@ fn start_of(kind: FileCycle, x: SinceStart) -> SinceStart
 
 // ---- The status words
 
-// The first: bit 14 only where the cycle was ignored.
-fn status_word(ignored: bool, errors: u16) -> u16
-    ensures { result ≡ cycle.status_word ignored errors }
+// What the first two show of the check: bit 14 alone where the cycle was ignored.
+fn shown(ignored: bool, found: Failing) -> Failing
+    ensures errors { result.errors ≡ cycle.status_word ignored found.errors }
+    ensures number { result.number ≡ cond ignored 0 found.number }
 {
-    if ignored { IGNORED_STATUS } else { errors }
+    if ignored {
+        Failing {
+            errors: IGNORED_STATUS,
+            number: 0,
+        }
+    } else {
+        found
+    }
 }
 
-// The second, of groups and limits: 0 where the cycle was ignored.
-fn number_word(ignored: bool, number: u16) -> u16
-    ensures { result ≡ cond ignored 0 number }
+// The words 110 to 119: the Group Positions from 112 on.
+fn group_words(errors: u16, number: u16, positions: [GroupPosition; 6]) -> [u16; M0_STATUS]
+    ensures { result ≡ errors ∷ number ∷ map (λ (p : GroupPosition). p.0) positions ++ (0 ∷ 0 ∷ []) }
 {
-    if ignored { 0 } else { number }
+    let [p1, p2, p3, p4, p5, p6] = positions;
+    [errors, number, p1.0, p2.0, p3.0, p4.0, p5.0, p6.0, 0, 0]
 }
 
-// Words 100 to 109.
-#[tactic(auto, unfolding(rules::specs::FileCycle::status_words))]
-fn setup_status(g: Configuration, errors: u16) -> [u16; M0_STATUS]
-    ensures { result ≡ rule.status_words FileCycle.SetupCycle g errors 0 [] }
-{
-    let p = g.programming;
-    let u = p.setup;
-    [
-        status_word(g.ignored, errors),
-        u.offset,
-        0,
-        0,
-        0,
-        0,
-        0,
-        0,
-        0,
-        0,
-    ]
-}
-
-// Words 110 to 119: the Group Positions from 112 on.
-#[tactic(auto, unfolding(rules::specs::FileCycle::status_words))]
-fn group_status(
-    g: Configuration,
-    errors: u16,
-    number: u16,
-    positions: [GroupPosition; 6],
-) -> [u16; M0_STATUS]
-    ensures { result ≡ rule.status_words FileCycle.GroupCycle g errors number positions }
-{
-    let p1 = positions[0];
-    let p2 = positions[1];
-    let p3 = positions[2];
-    let p4 = positions[3];
-    let p5 = positions[4];
-    let p6 = positions[5];
-    let first = status_word(g.ignored, errors);
-    let second = number_word(g.ignored, number);
-    [first, second, p1.0, p2.0, p3.0, p4.0, p5.0, p6.0, 0, 0]
-}
-
-// Words 630 to 649.
-#[tactic(auto, unfolding(rules::specs::FileCycle::status_words))]
-fn limit_status(g: Configuration, errors: u16, number: u16) -> [u16; M1_STATUS]
-    ensures { result ≡ rule.status_words FileCycle.LimitCycle g errors number [] }
-{
-    let mut words = [0u16; M1_STATUS];
-    words[0] = status_word(g.ignored, errors);
-    words[1] = number_word(g.ignored, number);
-    words
-}
-
-// The status words rewritten in a file of the kind's length.
+// The status words rewritten in a file of the kind's length; word 101 is the offset in force.
 #[tactic(auto, unfolding(rules::specs::FileCycle::file_length, rules::specs::FileCycle::status_at, rules::specs::FileCycle::status_words))]
 fn store_status(
     kind: FileCycle,
     g: Configuration,
-    errors: u16,
-    number: u16,
+    found: Failing,
     positions: [GroupPosition; 6],
     file: &mut [u16],
 )
-    ensures { length file.old ≡ rule.file_length kind → file.new ≡ stored_at (rule.status_at kind) (rule.status_words kind g errors number positions) file.old }
+    ensures { length file.old ≡ rule.file_length kind → file.new ≡ stored_at (rule.status_at kind) (rule.status_words kind g found.errors found.number positions) file.old }
 {
     let at = status_at(kind);
+    let Failing { errors, number } = shown(g.ignored, found);
     match kind {
         FileCycle::SetupCycle => {
-            let words = setup_status(g, errors);
+            let offset = g.programming.setup.offset;
+            let words = [errors, offset, 0, 0, 0, 0, 0, 0, 0, 0];
             word::store(file, at, &words);
         }
         FileCycle::GroupCycle => {
-            let words = group_status(g, errors, number, positions);
+            let words = group_words(errors, number, positions);
             word::store(file, at, &words);
         }
         FileCycle::LimitCycle => {
-            let words = limit_status(g, errors, number);
+            let mut words = [0; M1_STATUS];
+            words[0] = errors;
+            words[1] = number;
             word::store(file, at, &words);
         }
     }
@@ -292,18 +231,28 @@ fn command(kind: FileCycle, file: &[u16]) -> u16
     word::word_at(file, command_at(kind))
 }
 
+// What the data give, where the check found `errors`: the programming that they bring, or their refusal.
+fn data(
+    kind: FileCycle,
+    errors: u16,
+    g: Configuration,
+    file: &[u16],
+) -> Result<Programming, Refusal>
+    ensures { result ≡ cond (eqb errors 0) (Ok (rule.brought kind g file.now)) (Err (rule.data_refusal kind)) }
+{
+    if errors == 0 {
+        Ok(brought(kind, g, file))
+    } else {
+        Err(data_refusal(kind))
+    }
+}
+
 // What an acting cycle does to a configuration, where its check found `errors`.
 fn file_acts(kind: FileCycle, clear: bool, errors: u16, g: Configuration, file: &[u16]) -> Decision
     ensures { errors ≡ rule.file_errors kind g file.now → result ≡ rule.file_acts kind file.now (cycle.underway (Cycle.OfFile kind) clear g) }
 {
     let o = underway(Cycle::OfFile(kind), clear, g);
-    judged(
-        barred(kind, o),
-        errors,
-        data_refusal(kind),
-        brought(kind, o, file),
-        o,
-    )
+    judged(barred(kind, o), data(kind, errors, o, file), o)
 }
 
 // The acting cycle, on a file of the kind's length.
@@ -316,15 +265,10 @@ fn act(kind: FileCycle, clear: bool, m: Module, file: &mut [u16]) -> CycleResult
         × (file.new ≡ stored_at (rule.status_at kind) (rule.status_words kind d.configuration errors number m.state.since.positions) file.old)) }
 {
     let g = m.configuration;
-    let x = m.state;
-    let since = x.since;
-    let positions = since.positions;
-    let errors = file_errors(kind, g, &file[..]);
-    let number = failing(kind, g, &file[..]);
-    let d = file_acts(kind, clear, errors, g, &file[..]);
-    let after = d.configuration;
-    store_status(kind, after, errors, number, positions, file);
-    finished(d, start_of(kind, since), x)
+    let found = check(kind, g, file);
+    let d = file_acts(kind, clear, found.errors, g, file);
+    store_status(kind, d.configuration, found, m.state.since.positions, file);
+    finished(d, start_of(kind, m.state.since), m.state)
 }
 
 // The cycle.
@@ -332,14 +276,17 @@ pub fn file_cycle(kind: FileCycle, m: Module, file: &mut [u16]) -> CycleResult
     ensures { (result ≡ card.file_call kind m file.old) × (file.new ≡ card.file_left kind m file.old) }
 {
     let g = m.configuration;
-    let x = m.state;
-    let since = x.since;
     if file.len() != file_length(kind) {
-        return finished(turned_away(length_refusal(kind), g), since, x);
+        return finished(turned_away(length_refusal(kind), g), m.state.since, m.state);
     }
-    let w = command(kind, &file[..]);
+    let w = command(kind, file);
     if acts(Cycle::OfFile(kind), w, g) {
-        return act(kind, word::bit(w, CLEAR), m, file);
+        act(kind, word::bit(w, CLEAR), m, file)
+    } else {
+        finished(
+            idle_cycle(Cycle::OfFile(kind), w, g),
+            m.state.since,
+            m.state,
+        )
     }
-    finished(idle_cycle(Cycle::OfFile(kind), w, g), since, x)
 }

@@ -1,10 +1,11 @@
 // The block reader: a group's words of M0 or an output's of M1, as part of that file.
 #![tactic(auto)]
 
-ghost use Rattle.std.specs.Prelude.{◌≡◌, cond, length};
+ghost use Rattle.std.specs.Prelude.{◌≡◌, [], cond, length, MatchResult};
+ghost use Rattle.rules.specs.Cycle.{number_of};
 ghost use Rattle.rules.specs.Reader as reader;
+ghost use Rattle.reader.specs.Block.{is_group};
 
-use rules::numbers::number_of;
 use rules::{Module, Refusal};
 
 // The words of a group's block, and of an output's.
@@ -12,55 +13,72 @@ const GROUP_WORDS: usize = 4;
 
 const OUTPUT_WORDS: usize = 19;
 
-// How many blocks a file has.
-fn block_count(group: bool) -> u16
-    ensures { result ≡ cond group 6 32 }
-{
-    if group { 6 } else { 32 }
+// Whose block is read.
+#[derive(Clone, Copy, Debug, PartialEq, Eq)]
+pub enum BlockOf {
+    Group,
+    Output,
 }
 
-// The refusal's number, 0 if none: 1 before 2 before 4.
-#[tactic(auto, unfolding(rules::specs::Reader::reader_refusal))]
-fn refusal_of(length0: usize, length1: usize, group: bool, n: u16) -> u16
-    ensures { result ≡ reader.reader_refusal length0 length1 group n }
-{
-    if length0 != Module::M0_WORDS {
-        return number_of(Refusal::M0Length);
+impl BlockOf {
+    // How many blocks a file has.
+    fn count(self) -> u16
+        ensures { result ≡ cond (is_group self) 6 32 }
+    {
+        match self {
+            BlockOf::Group => 6,
+            BlockOf::Output => 32,
+        }
     }
-    if length1 != Module::M1_WORDS {
-        return number_of(Refusal::M1Length);
-    }
-    if n == 0 {
-        return number_of(Refusal::BlockNumber);
-    }
-    if block_count(group) < n {
-        return number_of(Refusal::BlockNumber);
-    }
-    0
 }
 
-// The part is empty on refusal; the refusal number goes to a lent number.
-#[tactic(auto, unfolding(rules::specs::Reader::reader_part))]
+// The block, or why it is refused: 1 before 2 before 4.
+#[tactic(auto, unfolding(rules::specs::Reader::reader_refusal, rules::specs::Reader::reader_part, rules::specs::Cycle::number_of))]
+fn block<'a>(m0: &'a [u16], m1: &'a [u16], of: BlockOf, n: u16) -> Result<&'a [u16], Refusal>
+    ensures refusal { MatchResult result (λ _. reader.reader_refusal (length m0.now) (length m1.now) (is_group of) n ≡ 0) (λ why. reader.reader_refusal (length m0.now) (length m1.now) (is_group of) n ≡ number_of why) }
+    ensures part { MatchResult result (λ part. reader.reader_part m0.now m1.now (is_group of) n ≡ part.now) (λ _. reader.reader_part m0.now m1.now (is_group of) n ≡ []) }
+{
+    if m0.len() != Module::M0_WORDS {
+        return Err(Refusal::M0Length);
+    }
+    if m1.len() != Module::M1_WORDS {
+        return Err(Refusal::M1Length);
+    }
+    if n == 0 || of.count() < n {
+        return Err(Refusal::BlockNumber);
+    }
+    match of {
+        BlockOf::Group => {
+            let at = 18 + GROUP_WORDS * n as usize;
+            let end = at + GROUP_WORDS;
+            Ok(&m0[at..end])
+        }
+        BlockOf::Output => {
+            let at = OUTPUT_WORDS * n as usize - 17;
+            let end = at + OUTPUT_WORDS;
+            Ok(&m1[at..end])
+        }
+    }
+}
+
+// The part is empty on refusal; the refusal number goes to a lent number, 0 if none.
 pub fn read_block<'a>(
     m0: &'a [u16],
     m1: &'a [u16],
-    group: bool,
+    of: BlockOf,
     n: u16,
     refusal: &mut u16,
 ) -> &'a [u16]
-    ensures { (result.now ≡ reader.reader_part m0.now m1.now group n) × (refusal.new ≡ reader.reader_refusal (length m0.now) (length m1.now) group n) }
+    ensures { (result.now ≡ reader.reader_part m0.now m1.now (is_group of) n) × (refusal.new ≡ reader.reader_refusal (length m0.now) (length m1.now) (is_group of) n) }
 {
-    let why = refusal_of(m0.len(), m1.len(), group, n);
-    *refusal = why;
-    if why != 0 {
-        return &m0[0..0];
+    match block(m0, m1, of, n) {
+        Ok(part) => {
+            *refusal = 0;
+            part
+        }
+        Err(why) => {
+            *refusal = u16::from(why);
+            &m0[0..0]
+        }
     }
-    if group {
-        let at = 18 + GROUP_WORDS * n as usize;
-        let end = at + GROUP_WORDS;
-        return &m0[at..end];
-    }
-    let at = OUTPUT_WORDS * n as usize - 17;
-    let end = at + OUTPUT_WORDS;
-    &m1[at..end]
 }

@@ -3,7 +3,6 @@ use Rattle.file_cycle.proofs.act.Goals as goal
 
 pub returns : goal.returns
 returns c = λ h.
-    let decided = c.file_acts-d.ensures c.file_errors-errors.ensures in (
-      rw (c.finished.ensures, c.start_of.ensures, decided),
-      rw (c.store_status.ensures h, decided, c.failing-number.ensures, c.file_errors-errors.ensures),
-    )
+    let found = c.check-found.ensures in
+    let decided = c.file_acts-d.ensures found.errors in
+    (rw (c.finished.ensures, c.start_of.ensures, decided), rw (c.store_status.ensures h, decided, found.number, found.errors))

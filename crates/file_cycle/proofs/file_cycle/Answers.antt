@@ -27,11 +27,11 @@ returns-then-acts c =
     let e = eq-eqb _ _ right in
     (rw (says.0, c.bit.ensures, c.command-w.ensures) (rw (e, acting)), rw (says.1, c.bit.ensures, c.command-w.ensures) (rw (e, acting)))
 
-pub returns : goal.returns
+pub returns-else-acts : goal.returns-else-acts
 unfolding file_call file_left file_cycle file_after cycle idle_cycle
-returns c =
+returns-else-acts c =
     let a = c.args in
     let right : length a.file.now ≡ file_length a.kind = c.if-file-file_length.false ∙ c.file_length.ensures in
     let idle : acts (OfFile a.kind) (command a.kind a.file.now) a.m.configuration ≡ false = rw c.command-w.ensures at (sym c.acts.ensures ∙ c.if-acts.false) in
     let e = eq-eqb _ _ right in
-    (rw (c.finished-2.ensures, c.idle_cycle.ensures, c.command-w.ensures) (rw (e, idle)), rw (e, idle))
+    (rw (c.finished-else-acts.ensures, c.idle_cycle.ensures, c.command-w.ensures) (rw (e, idle)), rw (e, idle))

@@ -1,11 +1,10 @@
 -- 02, "3/14 Serial link for the laptop": a DF1 frame, what its writer and its reader answer, and what they leave. "02" is the document of change requests, in all files of this crate.
 -- Assumes nothing.
-use Rattle.std.specs.Prelude.{ℕ, ◌+◌, ◌-◌, ◌%◌, Bool, true, false, cond, ◌&&◌, List, [], ◌∷◌, ◌++◌, length, take, drop, ◌==◌, nat_le, nat_lt}
+use Rattle.std.specs.Prelude.{ℕ, ◌+◌, ◌-◌, ◌%◌, Bool, true, false, cond, ◌&&◌, List, [], ◌∷◌, ◌++◌, length, take, drop, ◌==◌, nat_le, nat_lt, Result, Ok, Err}
+use Rattle.df1.specs.declared.Direction.{Direction}
+use Rattle.df1.specs.declared.Direction.TheVariants.{Write, Read}
 use Rattle.df1.specs.declared.Refusal.{Refusal}
 use Rattle.df1.specs.declared.Refusal.TheVariants.{DataLength, ShortBuffer, NotAFrame}
-use Rattle.df1.specs.declared.Outcome.{Outcome}
-use Rattle.df1.specs.declared.Outcome.TheVariants.{Accepted, Refused}
-use Rattle.df1.specs.declared.Answer.{Answer}
 
 -- ---- A frame
 
@@ -84,42 +83,40 @@ number_of ShortBuffer = 16
 number_of NotAFrame = 17
 
 -- 0 where a call was not refused, else the refusal's number
-unfoldable pub outcome_number : Outcome → ℕ
-outcome_number Accepted = 0
-outcome_number (Refused why) = number_of why
+unfoldable pub outcome_number : Result ℕ Refusal → ℕ
+outcome_number (Ok n) = 0
+outcome_number (Err why) = number_of why
 
--- 16 for a lent buffer that is shorter than what is to be put into it
-unfoldable pub fit_outcome : ℕ → ℕ → Outcome
-fit_outcome n room = cond (nat_le n room) Accepted (Refused ShortBuffer)
+-- "each gives the length": of what was put into the buffer; 16 for a lent buffer that is shorter than what is to be put into it
+unfoldable pub fit_outcome : ℕ → ℕ → Result ℕ Refusal
+fit_outcome n room = cond (nat_le n room) (Ok n) (Err ShortBuffer)
 
 -- "15 for data of 0 or over 244 bytes on writing; 16, after 15, for a buffer shorter than the frame"
-unfoldable pub write_outcome : List ℕ → ℕ → Outcome
-write_outcome bytes room = cond (allowed (length bytes)) (fit_outcome (length (frame_of bytes)) room) (Refused DataLength)
+unfoldable pub write_outcome : List ℕ → ℕ → Result ℕ Refusal
+write_outcome bytes room = cond (allowed (length bytes)) (fit_outcome (length (frame_of bytes)) room) (Err DataLength)
 
 -- "17 on reading anything but one whole frame with 1 to 244 data bytes, and after it 16 when the lent buffer is shorter than the data"
-unfoldable pub read_outcome : List ℕ → ℕ → Outcome
-read_outcome input room = cond (is_frame input) (fit_outcome (length (data_of input)) room) (Refused NotAFrame)
-
--- "each gives the length": of what was put into the buffer, so 0 on a refusal
-unfoldable pub answer_of : Outcome → ℕ → Answer
-answer_of Accepted n = record { length = n; outcome = Accepted }
-answer_of (Refused why) n = record { length = 0; outcome = Refused why }
+unfoldable pub read_outcome : List ℕ → ℕ → Result ℕ Refusal
+read_outcome input room = cond (is_frame input) (fit_outcome (length (data_of input)) room) (Err NotAFrame)
 
 -- "at the start of a lent buffer", "and leaves the rest"; "A refused call leaves the lent buffer untouched."
-unfoldable pub buffer_after : Outcome → List ℕ → List ℕ → List ℕ
-buffer_after Accepted bytes buffer = bytes ++ drop (length bytes) buffer
-buffer_after (Refused why) bytes buffer = buffer
+unfoldable pub buffer_after : Result ℕ Refusal → List ℕ → List ℕ → List ℕ
+buffer_after (Ok n) bytes buffer = bytes ++ drop (length bytes) buffer
+buffer_after (Err why) bytes buffer = buffer
 
--- "The writer puts exactly one frame at the start of a lent buffer": its answer, and the buffer then
-unfoldable pub write_answer : List ℕ → ℕ → Answer
-write_answer bytes room = answer_of (write_outcome bytes room) (length (frame_of bytes))
-
+-- "The writer puts exactly one frame at the start of a lent buffer": the buffer after its call
 unfoldable pub write_buffer : List ℕ → List ℕ → List ℕ
 write_buffer bytes buffer = buffer_after (write_outcome bytes (length buffer)) (frame_of bytes) buffer
 
--- "the reader the data of a frame that spans its whole input": its answer, and the buffer then
-unfoldable pub read_answer : List ℕ → ℕ → Answer
-read_answer input room = answer_of (read_outcome input room) (length (data_of input))
-
+-- "the reader the data of a frame that spans its whole input": the buffer after its call
 unfoldable pub read_buffer : List ℕ → List ℕ → List ℕ
 read_buffer input buffer = buffer_after (read_outcome input (length buffer)) (data_of input) buffer
+
+-- either call: its outcome, and the buffer after it
+unfoldable pub outcome_of : Direction → List ℕ → ℕ → Result ℕ Refusal
+outcome_of Write bytes room = write_outcome bytes room
+outcome_of Read bytes room = read_outcome bytes room
+
+unfoldable pub buffer_of : Direction → List ℕ → List ℕ → List ℕ
+buffer_of Write bytes buffer = write_buffer bytes buffer
+buffer_of Read bytes buffer = read_buffer bytes buffer

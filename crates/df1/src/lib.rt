@@ -4,7 +4,7 @@
 mod reading;
 mod writing;
 
-ghost use Rattle.std.specs.Prelude.{◌≡◌};
+ghost use Rattle.std.specs.Prelude.{◌≡◌, ◌≤◌, length, IfOk};
 ghost use Rattle.df1.specs.Frame as frame;
 
 pub use reading::read_frame;
@@ -22,24 +22,25 @@ pub const MOST_DATA: usize = 244;
 pub const LONGEST_FRAME: usize = 493;
 
 // Why a call was turned away: 15, 16 and 17 of document 02.
-#[derive(Clone, Copy)]
+#[derive(Clone, Copy, Debug, PartialEq, Eq)]
 pub enum Refusal {
     DataLength,
     ShortBuffer,
     NotAFrame,
 }
 
-#[derive(Clone, Copy)]
-pub enum Outcome {
-    Accepted,
-    Refused(Refusal),
-}
+// The refusal's number.
+impl From<Refusal> for u16 {
+    ghost from_gives = { λ why n. n ≡ frame.number_of why };
 
-// The number of bytes that were put into the lent buffer, 0 on a refusal.
-#[derive(Clone, Copy)]
-pub struct Answer {
-    pub length: usize,
-    pub outcome: Outcome,
+    #[tactic(auto, unfolding(crate::specs::Frame::number_of))]
+    fn from(why: Refusal) -> u16 {
+        match why {
+            Refusal::DataLength => 15,
+            Refusal::ShortBuffer => 16,
+            Refusal::NotAFrame => 17,
+        }
+    }
 }
 
 // How much data a body holds, and its sum.
@@ -50,17 +51,35 @@ struct Scan {
 }
 
 // 0 where a call was not refused, else the refusal's number.
-#[tactic(auto, unfolding(crate::specs::Frame::outcome_number, crate::specs::Frame::number_of))]
-pub fn number_of(o: Outcome) -> u16
-    ensures { result ≡ frame.outcome_number o }
+#[tactic(auto, unfolding(crate::specs::Frame::outcome_number))]
+pub fn number_of(outcome: Result<usize, Refusal>) -> u16
+    ensures { result ≡ frame.outcome_number outcome }
 {
-    match o {
-        Outcome::Accepted => 0,
-        Outcome::Refused(why) => match why {
-            Refusal::DataLength => 15,
-            Refusal::ShortBuffer => 16,
-            Refusal::NotAFrame => 17,
-        },
+    match outcome {
+        Ok(_) => 0,
+        Err(why) => u16::from(why),
+    }
+}
+
+// Which of the two calls a program makes.
+#[derive(Clone, Copy)]
+pub enum Direction {
+    Write,
+    Read,
+}
+
+impl Direction {
+    // What the writer answers for data, or the reader for an input.
+    #[tactic(auto, unfolding(crate::specs::Frame::outcome_of, crate::specs::Frame::buffer_of))]
+    pub fn call(self, bytes: &[u8], out: &mut [u8]) -> Result<usize, Refusal>
+        ensures outcome { result ≡ frame.outcome_of self bytes.now (length out.old) }
+        ensures within { IfOk result (λ n. n ≤ length out.new) }
+        ensures buffer { out.new ≡ frame.buffer_of self bytes.now out.old }
+    {
+        match self {
+            Direction::Write => write_frame(bytes, out),
+            Direction::Read => read_frame(bytes, out),
+        }
     }
 }
 
@@ -68,33 +87,19 @@ pub fn number_of(o: Outcome) -> u16
 fn is_allowed(n: usize) -> bool
     ensures { result ≡ frame.allowed n }
 {
-    if n < 1 {
-        return false;
-    }
-    n <= MOST_DATA
-}
-
-#[tactic(auto, unfolding(crate::specs::Frame::answer_of))]
-fn refused(why: Refusal) -> Answer
-    ensures { result ≡ frame.answer_of (Outcome.Refused why) 0 }
-{
-    Answer {
-        length: 0,
-        outcome: Outcome::Refused(why),
-    }
+    (1..=MOST_DATA).contains(&n)
 }
 
 // So many bytes are put into a buffer with so much room, or none.
-#[tactic(auto, unfolding(crate::specs::Frame::answer_of, crate::specs::Frame::fit_outcome))]
-fn fitting(n: usize, room: usize) -> Answer
-    ensures { result ≡ frame.answer_of (frame.fit_outcome n room) n }
+#[tactic(auto, unfolding(crate::specs::Frame::fit_outcome))]
+fn fitting(n: usize, room: usize) -> Result<usize, Refusal>
+    ensures outcome { result ≡ frame.fit_outcome n room }
+    ensures within { IfOk result (λ k. (k ≡ n) × (n ≤ room)) }
 {
-    if room < n {
-        return refused(Refusal::ShortBuffer);
-    }
-    Answer {
-        length: n,
-        outcome: Outcome::Accepted,
+    if n <= room {
+        Ok(n)
+    } else {
+        Err(Refusal::ShortBuffer)
     }
 }
 
@@ -103,5 +108,5 @@ fn fitting(n: usize, room: usize) -> Answer
 fn complement(sum: u8) -> u8
     ensures { result ≡ frame.complement sum }
 {
-    std::num::wrapping_sub_u8(0, sum)
+    0u8.wrapping_sub(sum)
 }

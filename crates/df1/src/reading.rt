@@ -1,79 +1,48 @@
 // The data of a frame put into a lent buffer.
-ghost use Rattle.std.specs.Prelude.{◌≡◌, length};
+ghost use Rattle.std.specs.Prelude.{◌≡◌, ◌≤◌, false, length, IfOk, MatchOption};
 ghost use Rattle.std.proofs.lemmas.List.Edits.{sets};
 ghost use Rattle.df1.specs.Frame as frame;
-ghost use Rattle.df1.specs.Parts.{framed, scan_of, found_length};
+ghost use Rattle.df1.specs.Frame.{is_frame};
+ghost use Rattle.df1.specs.Parts.{scan_of, IsBody};
 
-use crate::{Answer, DLE, ETX, Refusal, STX, Scan, complement, fitting, is_allowed, refused};
-
-// The input begins with DLE STX, and DLE ETX stand before its last byte.
-#[tactic(auto, unfolding(crate::specs::Parts::framed))]
-fn is_framed(input: &[u8]) -> bool
-    ensures { result ≡ framed input.now }
-{
-    let n = input.len();
-    if n < 5 {
-        return false;
-    }
-    if input[0] != DLE {
-        return false;
-    }
-    if input[1] != STX {
-        return false;
-    }
-    if input[n - 3] != DLE {
-        return false;
-    }
-    input[n - 2] == ETX
-}
+use crate::{DLE, ETX, Refusal, STX, Scan, complement, fitting, is_allowed};
 
 // The data between DLE STX and DLE ETX: their number and sum, a doubled DLE counted once. A DLE that is not doubled leaves none.
 #[tactic(auto, unfolding(crate::specs::Frame::sum_of, crate::specs::Parts::scan_of, crate::specs::Parts::paired, crate::specs::Frame::undoubled))]
-fn scan(body: &[u8]) -> Scan
+fn scan(body: &[u8]) -> Option<Scan>
     ensures { result ≡ scan_of body.now }
 {
-    let mut count: usize = 0;
+    let mut count = 0;
     let mut sum: u8 = 0;
-    let mut at: usize = 0;
-    while at < body.len() {
-        let b = body[at];
-        at = at + 1;
-        count = count + 1;
-        if b != DLE {
-            sum = std::num::wrapping_add_u8(sum, b);
+    let mut second = false;
+    for b in body {
+        if second {
+            if *b != DLE {
+                return None;
+            }
+            second = false;
             continue;
         }
-        if body.len() <= at {
-            return Scan { count: 0, sum: 0 };
-        }
-        if body[at] != DLE {
-            return Scan { count: 0, sum: 0 };
-        }
-        sum = std::num::wrapping_add_u8(sum, DLE);
-        at = at + 1;
+        count += 1;
+        sum = sum.wrapping_add(*b);
+        second = *b == DLE;
     }
-    Scan {
-        count: count,
-        sum: sum,
-    }
+    (!second).then_some(Scan { count, sum })
 }
 
-// The number of data bytes of a frame that spans the input; 0 where it is no whole frame.
-fn data_length(input: &[u8]) -> usize
-    ensures { result ≡ found_length input.now }
+// The body of a frame that spans the input, and the number of its data bytes.
+fn found(input: &[u8]) -> Option<(&[u8], usize)>
+    ensures { MatchOption result (is_frame input.now ≡ false) (λ p. IsBody input.now p.0.now p.1) }
 {
-    if !is_framed(input) {
-        return 0;
+    let [DLE, STX, body @ .., DLE, ETX, check] = input else {
+        return None;
+    };
+    let Scan { count, sum } = scan(body)?;
+    if is_allowed(count) && *check == complement(sum) {
+        Some((body, count))
+    } else {
+        None
     }
-    let end = input.len() - 3;
-    let s = scan(&input[2..end]);
-    if !is_allowed(s.count) {
-        return 0;
-    }
-    if input[end + 2] != complement(s.sum) {
-        return 0;
-    }
-    s.count
 }
 
 // The data of a body at the buffer's start, cut at its end; the second of two DLEs is passed over.
@@ -81,12 +50,9 @@ fn data_length(input: &[u8]) -> usize
 fn put_data(out: &mut [u8], body: &[u8])
     ensures { out.new ≡ sets out.old 0 (frame.undoubled body.now) }
 {
-    let mut place: usize = 0;
+    let mut place = 0;
     let mut second = false;
-    let mut at: usize = 0;
-    while at < body.len() {
-        let b = body[at];
-        at = at + 1;
+    for b in body {
         if second {
             second = false;
             continue;
@@ -94,25 +60,22 @@ fn put_data(out: &mut [u8], body: &[u8])
         if out.len() <= place {
             return;
         }
-        out[place] = b;
-        place = place + 1;
-        second = b == DLE;
+        out[place] = *b;
+        place += 1;
+        second = *b == DLE;
     }
 }
 
 // Puts the data of a frame that spans the whole input at the start of a lent buffer and leaves the rest. A refused call leaves all of it.
-pub fn read_frame(input: &[u8], out: &mut [u8]) -> Answer
-    ensures { (result ≡ frame.read_answer input.now (length out.old)) × (out.new ≡ frame.read_buffer input.now out.old) }
+pub fn read_frame(input: &[u8], out: &mut [u8]) -> Result<usize, Refusal>
+    ensures outcome { result ≡ frame.read_outcome input.now (length out.old) }
+    ensures within { IfOk result (λ n. n ≤ length out.new) }
+    ensures buffer { out.new ≡ frame.read_buffer input.now out.old }
 {
-    let found = data_length(input);
-    if found == 0 {
-        return refused(Refusal::NotAFrame);
-    }
-    let answer = fitting(found, out.len());
-    if answer.length == 0 {
-        return answer;
-    }
-    let end = input.len() - 3;
-    put_data(out, &input[2..end]);
-    answer
+    let Some((body, count)) = found(input) else {
+        return Err(Refusal::NotAFrame);
+    };
+    let n = fitting(count, out.len())?;
+    put_data(out, body);
+    Ok(n)
 }

@@ -1,44 +1,26 @@
 // frame: DF1 frames for the laptop. `frame write` takes data on standard input and writes their frame to standard output, `frame read` takes a frame and writes its data.
 #![tactic(auto)]
 
-ghost use Rattle.std.specs.Prelude.{◌≡◌};
-ghost use Rattle.streams.specs.Counts.{IsPrefixLen};
-
-use df1::{Answer, LONGEST_FRAME, Outcome};
+use df1::{Direction, LONGEST_FRAME};
 use streams::{arg, is_given, read_full, write_all};
 
 fn usage(rt: &impl Eprint) {
     let _ = eprintln!(rt; "usage: frame write | frame read");
 }
 
-// The line `refused n` for a call that was.
-fn tell(rt: &impl Eprint, o: Outcome) {
-    let number = df1::number_of(o);
-    if number == 0 {
-        return;
-    }
-    let _ = eprintln!(rt; "refused {number}");
-}
-
-fn made(writes: bool, bytes: &[u8], out: &mut [u8]) -> Answer
-    ensures { IsPrefixLen result.length out.new }
-{
-    if writes {
-        return df1::write_frame(bytes, out);
-    }
-    df1::read_frame(bytes, out)
-}
-
-// Standard input through the writer or the reader. One byte more than the longest frame tells a longer one, and longer data too.
-fn run(rt: &(impl Input + Print + Eprint), writes: bool) {
+// Standard input through the writer or the reader; the line `refused n` for a call that was. One byte more than the longest frame tells a longer one, and longer data too.
+fn run(rt: &(impl Input + Print + Eprint), direction: Direction) {
     let mut input = [0u8; LONGEST_FRAME + 1];
     let mut out = [0u8; LONGEST_FRAME];
     let got = read_full(&mut rt.reader(), &mut input);
-    let a = made(writes, &input[..got], &mut out);
-    let n = a.length;
-    write_all(rt, &out[..n]);
-    let o = a.outcome;
-    tell(rt, o);
+    match direction.call(&input[..got], &mut out) {
+        Ok(n) => {
+            write_all(rt, &out[..n]);
+        }
+        Err(why) => {
+            let _ = eprintln!(rt; "refused {}", u16::from(why));
+        }
+    }
 }
 
 fn main(rt: HostRuntime) {
@@ -49,8 +31,8 @@ fn main(rt: HostRuntime) {
         return;
     }
     match &word[..n] {
-        b"write" => run(&rt, true),
-        b"read" => run(&rt, false),
+        b"write" => run(&rt, Direction::Write),
+        b"read" => run(&rt, Direction::Read),
         _ => usage(&rt),
     }
 }

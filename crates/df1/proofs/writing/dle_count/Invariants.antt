@@ -1,10 +1,7 @@
--- What was counted and what is left to count are the whole.
-use Rattle.std.proofs.Common.{◌≡◌, ◌+◌, ◌≤◌, length, drop, ◌-◌}
+-- What was counted is the count so far.
+use Rattle.std.proofs.Common.{◌≡◌, take}
 use Rattle.df1.specs.Parts.{dle_count}
 use Rattle.df1.proofs.writing.dle_count.Given as goal
 
-abbrev pub invariant-loop-k : goal.invariant-loop-k
-invariant-loop-k l = (l.k ≤ length l.bytes) × (l.n ≤ l.k) × (l.n + dle_count (drop l.k l.bytes) ≡ dle_count l.bytes)
-
-abbrev pub decreases-loop-k : goal.decreases-loop-k
-decreases-loop-k l = length l.bytes - l.k
+abbrev pub invariant-loop-b : goal.invariant-loop-b
+invariant-loop-b l = l.n ≡ dle_count (take l.b-index l.bytes)

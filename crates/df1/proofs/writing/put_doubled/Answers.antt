@@ -1,63 +1,47 @@
--- What is left to put, put from here, completes the buffer. Assumes nothing.
-use Rattle.std.proofs.Common.{◌≡◌, ℕ, ◌+◌, ◌<◌, ◌≤◌, List, ◌∷◌, length, get_or, drop, set, arith, length-set, eq-eqb, ne_eqb}
+-- What is left to put, put, gives the buffer asked for. Assumes nothing.
+use Rattle.std.proofs.Common.{◌≡◌, ℕ, ◌+◌, ◌<◌, List, ◌∷◌, length, get_or, drop, set, sym, ◌∙◌, arith, add-one, eq-eqb, ne_eqb}
+use lib.Seq.{sets}
 use Rattle.df1.specs.Frame.{dle, doubled, sent}
-use Rattle.df1.specs.Parts.{Written}
-use Rattle.df1.proofs.Laws.{doubled_next, doubled_end, written_none, written_past, written_one, written_then}
+use Rattle.df1.proofs.Laws.{doubled_next, doubled_end, sets_past}
 use Rattle.df1.proofs.writing.put_doubled.Goals as goal
+use Rattle.df1.proofs.writing.put_doubled.Goals.{then-b-eq-DLE+else-out-place-2, else-b-eq-DLE}
 
 -- one data byte put, and then the rest
-module _ (bytes out : List ℕ) (place k : ℕ) (within : k < length bytes) (room : place < length out) where
+module _ (bytes out : List ℕ) (place k : ℕ) (within : k < length bytes) where
   abbrev b : ℕ
   b = get_or bytes k 0
 
-  abbrev once : List ℕ
-  once = set out place b
-
-  other : (b ≡ dle → ⊥) → (after : List ℕ) (next : ℕ) → Written (doubled (drop (k + 1) bytes)) (place + 1) once after next → Written (doubled (drop k bytes)) place out after next
+  once : (b ≡ dle → ⊥) → sets out place (doubled (drop k bytes)) ≡ sets (set out place b) (place + 1) (doubled (drop (k + 1) bytes))
   unfolding sent
-  other e after next h = rw (doubled_next bytes k within, ne_eqb b dle e) (written_then (written_one b out place room) h)
+  once e = rw (doubled_next bytes k within, ne_eqb b dle e, add-one place)
 
-  cut : b ≡ dle → length once ≤ place + 1 → Written (doubled (drop k bytes)) place out once (place + 1)
+  twice : b ≡ dle → sets out place (doubled (drop k bytes)) ≡ sets (set out place b) (place + 1) (b ∷ doubled (drop (k + 1) bytes))
   unfolding sent
-  cut e full = rw (doubled_next bytes k within, eq-eqb b dle e) (written_then (written_one b out place room) (written_past (b ∷ doubled (drop (k + 1) bytes)) once (place + 1) full))
-
-  twice : b ≡ dle → place + 1 < length once → (after : List ℕ) (next : ℕ) → Written (doubled (drop (k + 1) bytes)) (place + 1 + 1) (set once (place + 1) b) after next
-      → Written (doubled (drop k bytes)) place out after next
-  unfolding sent
-  twice e more after next h =
-      rw (doubled_next bytes k within, eq-eqb b dle e) (written_then (written_one b out place room) (written_then (written_one b once (place + 1) more) h))
+  twice e = rw (doubled_next bytes k within, eq-eqb b dle e, add-one place)
 
 pub returns-then-out-place : goal.returns-then-out-place
 returns-then-out-place c =
-    let l = c.loop-k in
-    l.invariant.2 _ _ (written_past _ l.out l.place c.if-out-place.true)
-
-pub loop-k-preserved-then-b-ne-DLE : goal.loop-k-preserved-then-b-ne-DLE
-loop-k-preserved-then-b-ne-DLE c =
-    let l = c.loop-k in (
-      omega arith,
-      simp length-set l.invariant.1,
-      λ after next h. l.invariant.2 after next (other c.args.bytes.now l.out l.place l.k c.loop-k-test.true c.if-out-place.false c.if-b-ne-DLE.true after next h),
-    )
+    let l = c.loop-b in
+    sym (sets_past l.out l.place (doubled (drop l.b-index c.args.bytes.now)) c.if-out-place.true) ∙ l.invariant
 
 pub returns-then-out-place-2 : goal.returns-then-out-place-2
 returns-then-out-place-2 c =
-    let l = c.loop-k in
-    l.invariant.2 _ _ (cut c.args.bytes.now l.out l.place l.k c.loop-k-test.true c.if-out-place.false c.if-b-ne-DLE.false c.if-out-place-2.true)
+    let l = c.loop-b in
+    let b = get_or c.args.bytes.now l.b-index 0 in
+    sym (sets_past (set l.out l.place b) (l.place + 1) (b ∷ doubled (drop (l.b-index + 1) c.args.bytes.now)) c.if-out-place-2.true)
+    ∙ sym (twice c.args.bytes.now l.out l.place l.b-index c.loop-b-test.true c.if-b-eq-DLE.true) ∙ l.invariant
 
-pub loop-k-preserved : goal.loop-k-preserved
-loop-k-preserved c =
-    let l = c.loop-k in (
-      omega arith,
-      simp length-set l.invariant.1,
-      λ after next h.
-          l.invariant.2 after next
-          (twice c.args.bytes.now l.out l.place l.k c.loop-k-test.true c.if-out-place.false c.if-b-ne-DLE.false c.if-out-place-2.false after next h),
-    )
+pub loop-b-preserved : goal.loop-b-preserved
+loop-b-preserved c =
+    let l = c.loop-b in
+    let bytes = c.args.bytes.now in
+    elim c.if-b-eq-DLE.branch [
+      | then-b-eq-DLE+else-out-place-2 w ↦ rw (w.out-is, w.place-is, add-one (l.place + 1)) (sym (twice bytes l.out l.place l.b-index c.loop-b-test.true w.if-b-eq-DLE.true) ∙ l.invariant)
+      | else-b-eq-DLE w ↦ rw (w.out-is, w.place-is) (sym (once bytes l.out l.place l.b-index c.loop-b-test.true w.if-b-eq-DLE.false) ∙ l.invariant)
+    ]
 
 pub returns : goal.returns
 returns c =
-    let l = c.loop-k in
-    let bytes = c.args.bytes.now in
-    let e : l.k ≡ length bytes = omega (arith, l.invariant.0, c.loop-k-test.false) in
-    l.invariant.2 _ _ (rw (e, doubled_end bytes) (written_none l.out l.place))
+    let l = c.loop-b in
+    let e : l.b-index ≡ length c.args.bytes.now = omega arith in
+    rw (e, doubled_end c.args.bytes.now) at l.invariant

@@ -6,7 +6,7 @@ ghost use Rattle.trace.specs.Sizes.{largest_trace, largest_report};
 
 use streams::{read_full, write_all};
 
-// Room for the largest whole trace and one byte more, which tells a longer input.
+// Room for the largest whole trace and one byte more, which tells a longer input. A const parameter couldn't say that the size is the theorem's.
 fn trace_space() -> [u8; trace::LARGEST_TRACE + 1]
     ensures { largest_trace + 1 ≡ length result }
 {

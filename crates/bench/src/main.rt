@@ -6,57 +6,42 @@ mod cases;
 mod frames;
 mod steps;
 
-use crate::arguments::{Count, case_name, count_of};
-use crate::cases::{Case, module_of};
+use crate::arguments::{Measure, measure_name, measure_of};
+use crate::cases::module_of;
 use crate::frames::{frames_read, frames_written};
 use crate::steps::checksum;
+use std::env::Env;
+use std::str::from_utf8;
 use streams::{arg, is_given};
-use text::{put, put_decimal, put_text, show};
 
-fn usage(rt: &impl Eprint) {
-    let _ = eprintln!(rt; "usage: bench a N | bench b N | bench w N | bench r N");
-}
-
-fn case_of(name: u8) -> Case {
-    if name == b'a' {
-        return Case::FULL;
-    }
-    Case::SMALL
-}
-
-// The checksum of a case. The steps' loop is called in one place: called from two it is compiled by itself and copies more of the module in each step.
-fn sum_of(name: u8, n: u32) -> u32 {
-    match name {
-        b'w' => frames_written(n),
-        b'r' => frames_read(n),
-        _ => checksum(module_of(case_of(name)), n),
+// The checksum of a measure. The steps' loop is called in one place: called from two it is compiled by itself and copies more of the module in each step.
+fn sum_of(measure: Measure, n: u32) -> u32 {
+    match measure {
+        Measure::Steps(case) => checksum(module_of(case), n),
+        Measure::FramesWritten => frames_written(n),
+        Measure::FramesRead => frames_read(n),
     }
 }
 
-// The number's text is printed as it was given.
-fn run(rt: &(impl Print + Eprint), name: u8, text: &[u8]) {
-    let count = count_of(text);
-    match count {
-        Count::Unread => usage(rt),
-        Count::Number(n) => {
-            let sum = sum_of(name, n);
-            let l = put(put(text::empty(), name), b' ');
-            let l = put(put_text(l, text), b' ');
-            show(rt, put_decimal(l, sum));
-        }
+// The line of a measure; none where the arguments are no name and number alone. The number's text is printed as it was given.
+fn run(rt: &(impl Env + Print), text: &[u8]) -> Option<()> {
+    if is_given(rt, 3) {
+        return None;
     }
+    let name = measure_name(rt)?;
+    let measure = measure_of(name)?;
+    let text = from_utf8(text).ok()?;
+    let n = text.parse().ok()?;
+    let sum = sum_of(measure, n);
+    let name = char::from(name);
+    let _ = println!(rt; "{name} {text} {sum}");
+    Some(())
 }
 
 fn main(rt: HostRuntime) {
-    let mut text = [0u8; 128];
+    let mut text = [0; 128];
     let n = arg(&rt, 2, &mut text);
-    if is_given(&rt, 3) {
-        usage(&rt);
-        return;
-    }
-    let name = case_name(&rt);
-    match name {
-        b'a' | b'b' | b'w' | b'r' => run(&rt, name, &text[..n]),
-        _ => usage(&rt),
+    if run(&rt, &text[..n]).is_none() {
+        let _ = eprintln!(rt; "usage: bench a N | bench b N | bench w N | bench r N");
     }
 }

@@ -28,19 +28,10 @@ pub fn plus(sum: u32, number: u64) -> u32 {
     ((31 * sum as u64 + number % 4294967296) % 4294967296) as u32
 }
 
-fn flag(b: bool) -> u64
-    ensures { result < 2 }
-{
-    if b {
-        return 1;
-    }
-    0
-}
-
 // The third number of a step: rpm, the three flags, the changed-output count and whether it was answered 11.
 fn readings(a: Answer) -> u64 {
-    let flags = 4 * flag(a.overflow) + 2 * flag(a.md1) + flag(a.md2);
-    8 * a.rpm as u64 + flags + 2097152 * a.changed as u64 + 67108864 * flag(a.refused)
+    let flags = 4 * u64::from(a.overflow) + 2 * u64::from(a.md1) + u64::from(a.md2);
+    8 * a.rpm as u64 + flags + 2097152 * a.changed as u64 + 67108864 * u64::from(a.refused)
 }
 
 // The sum with a step's answer.
@@ -54,14 +45,11 @@ fn plus_answer(sum: u32, a: Answer) -> u32 {
 // The checksum over the answers of so many steps.
 pub fn checksum(m: Module, steps: u32) -> u32 {
     let mut card = m;
-    let mut sum: u32 = 0;
-    let mut i: u32 = 0;
-    while i < steps {
+    let mut sum = 0;
+    for i in 0..steps {
         let d = engine::step(card, sample_at(i));
-        let answer = d.answer;
         card = d.card;
-        sum = plus_answer(sum, answer);
-        i = i + 1;
+        sum = plus_answer(sum, d.answer);
     }
     sum
 }

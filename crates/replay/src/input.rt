@@ -1,115 +1,120 @@
 // The calls of a list: little-endian words from standard input.
-ghost use Rattle.std.specs.Prelude.{◌≡◌, ◌<◌, ◌≤◌};
-ghost use Rattle.streams.specs.Counts.{IsPrefixLen};
+ghost use Rattle.std.specs.Prelude.{◌≤◌, length, IfOk};
 
-use rules::Sample;
-use std::io::Stdin;
+use df1::Direction;
+use rules::{FileCycle, Sample};
+use std::io::{Error, Read};
 use streams::read_full;
 
-// What the input had: nothing, the part of a word or of a file, or the whole of it.
+// The list is cut short or has an unknown opcode.
 #[derive(Clone, Copy)]
-pub enum Input {
-    Nothing,
-    Cut,
-    Word(u16),
-}
+pub struct Bad;
 
-fn wide(x: u8) -> u16
-    ensures { (result ≡ x) × (result < 256) }
-{
-    x as u16
-}
-
-// The little-endian word of two bytes.
-fn word(low: u8, high: u8) -> u16 {
-    wide(low) + 256 * wide(high)
-}
-
-// The next word.
-pub fn read_word(mut from: Stdin) -> Input {
-    let mut b = [0u8; 2];
-    let got = read_full(&mut from, &mut b);
-    if got == 0 {
-        return Input::Nothing;
-    }
-    if got < 2 {
-        return Input::Cut;
-    }
-    Input::Word(word(b[0], b[1]))
-}
-
-// The words of 1302 bytes.
-fn unpack(file: &mut [u16; 651], b: &[u8; 1302]) {
-    let mut i: usize = 0;
-    while i < 651 {
-        let low = b[2 * i];
-        let high = b[2 * i + 1];
-        file[i] = word(low, high);
-        i = i + 1;
+impl From<Error> for Bad {
+    fn from(_: Error) -> Bad {
+        Bad
     }
 }
 
-// Reads n words, at most 651, to the file's start; false where the input ends before.
-fn read_part(mut from: Stdin, file: &mut [u16; 651], n: u16) -> bool {
-    let mut b = [0u8; 1302];
-    let want = 2 * n as usize;
-    if 1302 < want {
-        return false;
-    }
-    let got = read_full(&mut from, &mut b[..want]);
-    if got < want {
-        return false;
-    }
-    unpack(file, &b);
-    true
+// What a call is, by its opcode.
+#[derive(Clone, Copy)]
+pub enum Opcode {
+    Power,
+    File(FileCycle),
+    Nudge,
+    Step,
+    Block,
+    ReadByte,
+    WriteByte,
+    Frame(Direction),
 }
 
-// Reads n words. A file of over 650 words is refused by its length alone, so the parts of one are laid over each other.
-fn read_words(from: Stdin, file: &mut [u16; 651], n: u16) -> bool {
-    let mut left = n;
-    while 651 < left {
-        if !read_part(from, file, 651) {
-            return false;
+impl TryFrom<u16> for Opcode {
+    type Error = Bad;
+
+    fn try_from(n: u16) -> Result<Opcode, Bad> {
+        match n {
+            0 => Ok(Opcode::Power),
+            1 => Ok(Opcode::File(FileCycle::SetupCycle)),
+            2 => Ok(Opcode::File(FileCycle::GroupCycle)),
+            3 => Ok(Opcode::File(FileCycle::LimitCycle)),
+            4 => Ok(Opcode::Nudge),
+            5 => Ok(Opcode::Step),
+            6 => Ok(Opcode::Block),
+            7 => Ok(Opcode::ReadByte),
+            8 => Ok(Opcode::WriteByte),
+            9 => Ok(Opcode::Frame(Direction::Write)),
+            10 => Ok(Opcode::Frame(Direction::Read)),
+            _ => Err(Bad),
         }
-        left = left - 651;
     }
-    read_part(from, file, left)
 }
 
-// Reads a count and that many words; the answer is the count.
-pub fn read_file(from: Stdin, file: &mut [u16; 651]) -> Input {
-    let count = read_word(from);
-    let Input::Word(n) = count else {
-        return Input::Cut;
-    };
-    if read_words(from, file, n) {
-        return count;
+// The next call's opcode; none where the list ends before it.
+pub fn next_opcode<R: Read>(from: &mut R) -> Result<Option<Opcode>, Bad> {
+    let mut b = [0; 2];
+    match read_full(from, &mut b) {
+        0 => Ok(None),
+        2 => Ok(Some(Opcode::try_from(u16::from_le_bytes(b))?)),
+        _ => Err(Bad),
     }
-    Input::Cut
 }
 
-// How many words of a file of n the room has. It takes the room so that the contract can speak of it.
-pub fn kept(n: u16, room: [u16; 651]) -> usize
-    ensures prefix_len { IsPrefixLen result room }
-    ensures upper_bound { result ≤ 651 }
-{
-    if 651 < n {
-        return 651;
+// The next word of a call.
+pub fn read_word<R: Read>(from: &mut R) -> Result<u16, Bad> {
+    let mut b = [0; 2];
+    from.read_exact(&mut b)?;
+    Ok(u16::from_le_bytes(b))
+}
+
+// The words of so many bytes.
+fn words_of<const N: usize>(bytes: &[u8]) -> [u16; N] {
+    let mut words = [0; N];
+    for (word, b) in words.iter_mut().zip(bytes.chunks_exact(2)) {
+        *word = u16::from_le_bytes([b[0], b[1]]);
     }
-    n as usize
+    words
 }
 
 // The nine words of a sample.
-pub fn sample_of(b: [u8; 18]) -> Sample {
-    Sample {
-        raw: word(b[0], b[1]),
-        currents: word(b[2], b[3]),
-        virtuals: word(b[4], b[5]),
-        inputson: word(b[6], b[7]),
-        inputsoff: word(b[8], b[9]),
-        realon: word(b[10], b[11]),
-        realoff: word(b[12], b[13]),
-        virtualon: word(b[14], b[15]),
-        virtualoff: word(b[16], b[17]),
+pub fn read_sample<R: Read>(from: &mut R) -> Result<Sample, Bad> {
+    let mut b = [0; 18];
+    from.read_exact(&mut b)?;
+    let [
+        raw,
+        currents,
+        virtuals,
+        inputson,
+        inputsoff,
+        realon,
+        realoff,
+        virtualon,
+        virtualoff,
+    ] = words_of::<9>(&b);
+    Ok(Sample {
+        raw,
+        currents,
+        virtuals,
+        inputson,
+        inputsoff,
+        realon,
+        realoff,
+        virtualon,
+        virtualoff,
+    })
+}
+
+// Reads a count and that many words to the room's start, which is the file. One of over 650 words is refused by its length alone, so the parts of a longer one
+// are laid over each other.
+pub fn read_file<'a, R: Read>(from: &mut R, room: &'a mut [u16; 651]) -> Result<&'a mut [u16], Bad>
+    ensures { IfOk result (λ file. length file.now ≤ 651) }
+{
+    let count = usize::from(read_word(from)?);
+    let mut b = [0; 1302];
+    for _ in 0..count / 651 {
+        from.read_exact(&mut b)?;
     }
+    from.read_exact(&mut b[..2 * (count % 651)])?;
+    *room = words_of(&b);
+    Ok(&mut room[..count.min(651)])
 }

@@ -5,274 +5,158 @@ mod answer;
 mod frames;
 mod input;
 
-ghost use Rattle.std.specs.Prelude.{◌≡◌, ◌<◌, ◌≤◌};
-
-use crate::answer::{
-    cycle_line, file_line, put_outcome, put_words, read_line, step_line, write_line,
-};
-use crate::frames::{answer, low_bytes};
-use crate::input::{Input, kept, read_file, read_word, sample_of};
+use crate::answer::{Shown, Words, cycle_name, show_cycle, show_step, status_words};
+use crate::frames::show_frame;
+use crate::input::{Bad, Opcode, next_opcode, read_file, read_sample, read_word};
+use df1::Direction;
 use file_cycle::file_cycle;
-use rules::numbers::is_accepted;
-use rules::{FileCycle, Model, Module, Sample};
+use reader::{BlockOf, read_block};
+use rules::{FileCycle, Module, Outcome};
 use std::io::{Stdin, Stdout};
-use streams::{read_full, write_all};
-use text::{put_decimal, put_text, show};
 
-// The module, where one was powered up, whether the list goes on, and what the list comes from and its answers go to.
+// The module, where one was powered up, and what the list comes from and its answers go to. A failed write is passed over.
 #[derive(Drop)]
 struct Replay {
-    card: Module,
-    powered: bool,
-    more: bool,
+    card: Option<Module>,
     from: Stdin,
     to: Stdout,
 }
 
-fn ended(r: Replay) -> Replay {
-    let mut n = r;
-    n.more = false;
-    n
-}
-
-// The list is cut short or has an unknown opcode.
-fn bad(r: Replay) -> Replay {
-    write_all(&r.to, b"bad\n");
-    ended(r)
-}
-
-// There is no module yet.
-fn none(r: Replay) -> Replay {
-    write_all(&r.to, b"none\n");
-    r
-}
-
-fn power_call(r: Replay) -> Replay {
-    let number = read_word(r.from);
-    let Input::Word(n) = number else {
-        return bad(r);
-    };
-    let card = r.card;
-    let p = Module::power_up(card, n);
-    let o = p.outcome;
-    let after = p.card;
-    show(&r.to, put_outcome(put_text(text::empty(), b"power "), o));
-    Replay {
-        card: after,
-        powered: r.powered | is_accepted(o),
-        more: r.more,
-        from: r.from,
-        to: r.to,
-    }
-}
-
-// The cycle on a file, and its line.
-fn answered(to: Stdout, kind: FileCycle, m: Module, file: &mut [u16]) -> Module {
-    let p = file_cycle(kind, m, file);
-    show(&to, file_line(kind, p, &file[..]));
-    p.card
-}
-
-fn file_call(r: Replay, kind: FileCycle) -> Replay {
-    let mut file = [0u16; 651];
-    let length = read_file(r.from, &mut file);
-    let Input::Word(n) = length else {
-        return bad(r);
-    };
-    if !r.powered {
-        return none(r);
-    }
-    let end = kept(n, file);
-    let card = r.card;
-    let after = answered(r.to, kind, card, &mut file[..end]);
-    let mut next = r;
-    next.card = after;
-    next
-}
-
-fn nudge_call(r: Replay) -> Replay {
-    let read = read_word(r.from);
-    let Input::Word(w) = read else {
-        return bad(r);
-    };
-    if !r.powered {
-        return none(r);
-    }
-    let card = r.card;
-    let p = nudge::nudge_cycle(card, w);
-    show(&r.to, cycle_line(b"nudge ", p));
-    let after = p.card;
-    let mut next = r;
-    next.card = after;
-    next
-}
-
-// The step of a sample, and its line.
-fn stepped(r: Replay, s: Sample) -> Replay {
-    let card = r.card;
-    let d = engine::step(card, s);
-    let answer = d.answer;
-    let after = d.card;
-    show(&r.to, step_line(answer, bus::line(after)));
-    let mut next = r;
-    next.card = after;
-    next
-}
-
-fn step_call(r: Replay) -> Replay {
-    let mut b = [0u8; 18];
-    let mut from = r.from;
-    let got = read_full(&mut from, &mut b);
-    if got < 18 {
-        return bad(r);
-    }
-    if !r.powered {
-        return none(r);
-    }
-    stepped(r, sample_of(b))
-}
-
-fn read_call(r: Replay) -> Replay {
-    let read = read_word(r.from);
-    let Input::Word(offset) = read else {
-        return bad(r);
-    };
-    if !r.powered {
-        return none(r);
-    }
-    let card = r.card;
-    show(&r.to, read_line(bus::read_byte(card, offset)));
-    r
-}
-
-// The low byte of a value written, and its line.
-fn written(r: Replay, offset: u16, value: u16) -> Replay {
-    let card = r.card;
-    let p = bus::write_byte(card, offset, (value % 256) as u8);
-    let o = p.outcome;
-    let after = p.card;
-    show(&r.to, write_line(o, bus::line(after)));
-    let mut next = r;
-    next.card = after;
-    next
-}
-
-fn write_call(r: Replay) -> Replay {
-    let place = read_word(r.from);
-    let Input::Word(offset) = place else {
-        return bad(r);
-    };
-    let read = read_word(r.from);
-    let Input::Word(value) = read else {
-        return bad(r);
-    };
-    if !r.powered {
-        return none(r);
-    }
-    written(r, offset, value)
-}
-
-// The block reader's line.
-fn block_line<'a>(to: Stdout, m0: &'a [u16], m1: &'a [u16], group: bool, n: u16) {
-    let mut why: u16 = 0;
-    let part = reader::read_block(m0, m1, group, n, &mut why);
-    let l = put_decimal(put_text(text::empty(), b"block "), why as u32);
-    show(&to, put_words(l, part, 0, part.len()));
-}
-
-// Both files, and the block of one of them.
-fn block_of(r: Replay, group: bool, n: u16) -> Replay {
-    let mut m0 = [0u16; 651];
-    let mut m1 = [0u16; 651];
-    let length0 = read_file(r.from, &mut m0);
-    let Input::Word(n0) = length0 else {
-        return bad(r);
-    };
-    let length1 = read_file(r.from, &mut m1);
-    let Input::Word(n1) = length1 else {
-        return bad(r);
-    };
-    let end0 = kept(n0, m0);
-    let end1 = kept(n1, m1);
-    block_line(r.to, &m0[..end0], &m1[..end1], group, n);
-    r
-}
-
-fn block_call(r: Replay) -> Replay {
-    let read = read_word(r.from);
-    let Input::Word(which) = read else {
-        return bad(r);
-    };
-    let number = read_word(r.from);
-    let Input::Word(n) = number else {
-        return bad(r);
-    };
-    block_of(r, which == 0, n)
-}
-
-// A frame written or read: the buffer's size, then the bytes. Data or a frame that the room has not whole is refused by the part that it has.
-fn frame_call(r: Replay, writes: bool) -> Replay {
-    let size = read_word(r.from);
-    let Input::Word(capacity) = size else {
-        return bad(r);
-    };
-    let mut words = [0u16; 651];
-    let length = read_file(r.from, &mut words);
-    let Input::Word(n) = length else {
-        return bad(r);
-    };
-    let end = kept(n, words);
-    let bytes = low_bytes(&words);
-    answer(r.to, writes, &bytes[..end], capacity);
-    r
-}
-
-fn call(r: Replay, opcode: u16) -> Replay {
-    match opcode {
-        0 => power_call(r),
-        1 => file_call(r, FileCycle::SetupCycle),
-        2 => file_call(r, FileCycle::GroupCycle),
-        3 => file_call(r, FileCycle::LimitCycle),
-        4 => nudge_call(r),
-        5 => step_call(r),
-        6 => block_call(r),
-        7 => read_call(r),
-        8 => write_call(r),
-        9 => frame_call(r, true),
-        10 => frame_call(r, false),
-        _ => bad(r),
-    }
-}
-
-// One call of the list.
-fn one(r: Replay) -> Replay {
-    let opcode = read_word(r.from);
-    match opcode {
-        Input::Nothing => ended(r),
-        Input::Cut => bad(r),
-        Input::Word(n) => call(r, n),
-    }
-}
-
-// The calls of the list, to its end.
-fn run(r: Replay) {
-    let mut n = r;
-    let mut turns: u64 = 18446744073709551615;
-    while 0 < turns {
-        n = one(n);
-        if !n.more {
-            return;
+impl Replay {
+    // The module; the line `none` where there is none yet.
+    fn module(&self) -> Option<Module> {
+        if self.card.is_none() {
+            let _ = println!(self.to; "none");
         }
-        turns = turns - 1;
+        self.card
+    }
+
+    fn power(&mut self) -> Result<(), Bad> {
+        let number = read_word(&mut self.from)?;
+        let outcome = match Module::new(number) {
+            Ok(card) => {
+                self.card = Some(card);
+                Outcome::Accepted
+            }
+            Err(why) => Outcome::Refused(why),
+        };
+        let _ = println!(self.to; "power {}", Shown(outcome));
+        Ok(())
+    }
+
+    fn file(&mut self, kind: FileCycle) -> Result<(), Bad> {
+        let mut room = [0; 651];
+        let file = read_file(&mut self.from, &mut room)?;
+        if let Some(card) = self.module() {
+            let p = file_cycle(kind, card, file);
+            show_cycle(&self.to, cycle_name(kind), p, status_words(kind, file));
+            self.card = Some(p.card);
+        }
+        Ok(())
+    }
+
+    fn nudge(&mut self) -> Result<(), Bad> {
+        let word = read_word(&mut self.from)?;
+        if let Some(card) = self.module() {
+            let p = nudge::nudge_cycle(card, word);
+            show_cycle(&self.to, "nudge", p, &[]);
+            self.card = Some(p.card);
+        }
+        Ok(())
+    }
+
+    fn step(&mut self) -> Result<(), Bad> {
+        let sample = read_sample(&mut self.from)?;
+        if let Some(card) = self.module() {
+            let d = engine::step(card, sample);
+            show_step(&self.to, d.answer, bus::line(d.card));
+            self.card = Some(d.card);
+        }
+        Ok(())
+    }
+
+    fn block(&mut self) -> Result<(), Bad> {
+        let of = match read_word(&mut self.from)? {
+            0 => BlockOf::Group,
+            _ => BlockOf::Output,
+        };
+        let number = read_word(&mut self.from)?;
+        let mut room0 = [0; 651];
+        let m0 = read_file(&mut self.from, &mut room0)?;
+        let mut room1 = [0; 651];
+        let m1 = read_file(&mut self.from, &mut room1)?;
+        let mut why = 0;
+        let block = Words(read_block(m0, m1, of, number, &mut why));
+        let _ = println!(self.to; "block {why}{block}");
+        Ok(())
+    }
+
+    fn read_byte(&mut self) -> Result<(), Bad> {
+        let offset = read_word(&mut self.from)?;
+        if let Some(card) = self.module() {
+            let (outcome, value) = match bus::read_byte(card, offset) {
+                Ok(value) => (Outcome::Accepted, value),
+                Err(why) => (Outcome::Refused(why), 0),
+            };
+            let _ = println!(self.to; "read {} {value:02x}", Shown(outcome));
+        }
+        Ok(())
+    }
+
+    // Of the value only the low byte counts.
+    fn write_byte(&mut self) -> Result<(), Bad> {
+        let offset = read_word(&mut self.from)?;
+        let value = read_word(&mut self.from)?;
+        if let Some(card) = self.module() {
+            let p = bus::write_byte(card, offset, (value % 256) as u8);
+            let up = u8::from(bus::line(p.card));
+            let _ = println!(self.to; "write {} {up}", Shown(p.outcome));
+            self.card = Some(p.card);
+        }
+        Ok(())
+    }
+
+    // A frame written or read: the buffer's size, then the bytes.
+    fn frame(&mut self, direction: Direction) -> Result<(), Bad> {
+        let capacity = read_word(&mut self.from)?;
+        let mut room = [0; 651];
+        let file = read_file(&mut self.from, &mut room)?;
+        show_frame(&self.to, direction, file, capacity);
+        Ok(())
+    }
+
+    fn call(&mut self, opcode: Opcode) -> Result<(), Bad> {
+        match opcode {
+            Opcode::Power => self.power(),
+            Opcode::File(kind) => self.file(kind),
+            Opcode::Nudge => self.nudge(),
+            Opcode::Step => self.step(),
+            Opcode::Block => self.block(),
+            Opcode::ReadByte => self.read_byte(),
+            Opcode::WriteByte => self.write_byte(),
+            Opcode::Frame(direction) => self.frame(direction),
+        }
+    }
+
+    // The calls of the list, to its end.
+    fn run(&mut self) -> Result<(), Bad> {
+        for _ in 0..u64::MAX {
+            let Some(opcode) = next_opcode(&mut self.from)? else {
+                return Ok(());
+            };
+            self.call(opcode)?;
+        }
+        Ok(())
     }
 }
 
 fn main(rt: HostRuntime) {
-    run(Replay {
-        card: Module::fresh(Model::NoModule),
-        powered: false,
-        more: true,
+    let mut replay = Replay {
+        card: None,
         from: rt.stdin(),
         to: rt.stdout(),
-    });
+    };
+    if replay.run().is_err() {
+        let _ = println!(rt; "bad");
+    }
 }

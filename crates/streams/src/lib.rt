@@ -13,10 +13,7 @@ pub fn read_full<R: Read>(input: &mut R, buf: &mut [u8]) -> usize
 {
     let mut done = 0;
     while done < buf.len() {
-        let n = match input.read(&mut buf[done..]) {
-            Ok(n) => n,
-            Err(_) => 0,
-        };
+        let n = input.read(&mut buf[done..]).unwrap_or(0);
         if n == 0 {
             return done;
         }
@@ -34,17 +31,10 @@ pub fn write_all<P: Print>(to: &P, bytes: &[u8]) -> bool {
 pub fn arg<E: Env>(env: &E, i: usize, buf: &mut [u8]) -> usize
     ensures { IsPrefixLen result buf.new }
 {
-    match env.arg(i, buf) {
-        Ok(length) => length,
-        Err(_) => 0,
-    }
+    env.arg(i, buf).unwrap_or(0)
 }
 
 // The program was started with this argument.
 pub fn is_given<E: Env>(env: &E, i: usize) -> bool {
-    let mut start = [0u8; 1];
-    match env.arg(i, &mut start) {
-        Err(FillError::NotPresent) => false,
-        _ => true,
-    }
+    !matches!(env.arg(i, &mut [0]), Err(FillError::NotPresent))
 }

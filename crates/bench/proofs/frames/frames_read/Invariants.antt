@@ -1,9 +1,0 @@
--- The readings left fall, and both rooms keep their lengths. Assumes nothing.
-use Rattle.std.proofs.Common.{◌≡◌, ◌-◌, ◌<◌, ◌≤◌, length}
-use Rattle.bench.proofs.frames.frames_read.Given as goal
-
-abbrev pub invariant-loop-i : goal.invariant-loop-i
-invariant-loop-i l = (l.i ≤ l.count) × (l.count < 4294967296) × (length l.input ≡ 250) × (length l.out ≡ 244)
-
-abbrev pub decreases-loop-i : goal.decreases-loop-i
-decreases-loop-i l = l.count - l.i

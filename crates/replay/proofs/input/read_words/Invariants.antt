@@ -1,9 +1,0 @@
--- Each part leaves fewer words. Assumes nothing.
-use Rattle.std.proofs.Common.{◌≤◌}
-use Rattle.replay.proofs.input.read_words.Given as goal
-
-abbrev pub invariant-loop-left : goal.invariant-loop-left
-invariant-loop-left l = l.left ≤ l.n
-
-abbrev pub decreases-loop-left : goal.decreases-loop-left
-decreases-loop-left l = l.left

@@ -4,8 +4,10 @@ use Prim.Native.Nat.{ℕ, zero, suc, ◌+◌, ◌<◌}
 use mathlib.Core.Path.{◌≡◌, refl, ap, ◌∙◌}
 use mathlib.Core.Bool.{Bool, true, false, cond, not}
 use mathlib.Core.List.{List, [], ◌∷◌}
+use native.Mathlib.Omega.{arith}
 use lib.ListN.{get_or, set, replicate, get_or-replicate}
 use lib.Dec.{ltb}
+use Rattle.std.proofs.lemmas.Nat.{mod_below}
 use Rattle.rules.specs.declared.Model.{Model}
 use Rattle.rules.specs.declared.Limit.{Limit}
 use Rattle.rules.specs.declared.Programming.{Programming}
@@ -27,7 +29,6 @@ use Rattle.rules.specs.Calls.{Read, Write, Call, Step, FileCall, NudgeCall, Byte
 use Rattle.rules.specs.Card.{speed_after, group_after, speed_now, conditions_now, group_now, left_position, open_now, groups_now, positions_now, openness_now, timed_after, timed_now, timed_of, group_state_at, fresh_group, timed_at, fresh_timed, module_start, group_start, limit_start, start_of, since_after, fresh_module, file_call, nudge_call, since_now, step_state, step_call, write_call}
 use Rattle.rules.specs.Run.{accessed, module_after, run}
 use Rattle.rules.specs.History.{configuration_of, programming_of, is_module_start, is_group_start, is_limit_start, since, turned_in, since_module_start, up_to_step, rpm_in, conditions_in, GroupStep, past_of, group_step_in, since_group_start, group_past, position_in, open_in, positions_in, openness_in, pair_in, since_limit_start, lasts_in}
-use Rattle.rules.proofs.Laws.{mod_below}
 use Rattle.rules.proofs.Packing.{get_d_table_0, table_same}
 use Rattle.rules.proofs.GroupPast.{GroupLink, group_step, group_fresh, position_is, open_is}
 use Rattle.rules.proofs.Timed.{TimedLink, timed_step, timed_fresh, lasting_is}
@@ -123,7 +124,7 @@ module _ (model : Model) (l : List Call) (x : SinceStart) (k : Agrees (programmi
 
   event_below : (n : ℕ) → (group_event (conditions_in model l s) (group_at p n) n).machine.0 < p.setup.top + 1
   unfolding group_event conditions_in conditions machine_at machine_position
-  event_below n = mod_below _ p.setup.top
+  event_below n = mod_below _ (p.setup.top + 1) (omega arith)
 
   -- a group
   module _ (n : ℕ) (b : n < 6) where

@@ -7,7 +7,7 @@ use mathlib.Core.Logic.{◌↔◌}
 use mathlib.Core.Path.{◌≡◌, refl, sym}
 use borrow.Author.Tests.{eqb-false, not-true}
 use lib.Dec.{eqb}
-use Rattle.rules.proofs.Past.{both}
+use Rattle.std.proofs.lemmas.Bool.{and_parts}
 
 -- the number of the first cause that holds; 0, accepted, where none does
 abbrev pub first_of : List (Bool × ℕ) → ℕ
@@ -28,15 +28,12 @@ abbrev pub distinct : List (Bool × ℕ) → Bool
 distinct [] = true
 distinct (c ∷ cs) = apart c.1 cs && distinct cs
 
-differs : (a b : ℕ) → not (eqb a b) ≡ true → a ≡ b → ⊥
-differs a b h = eqb-false a b (not-true (eqb a b) h)
-
 -- a number that is none of these; the first of these and the others
 split_apart : (n : ℕ) (c : Bool × ℕ) (cs : List (Bool × ℕ)) → apart n (c ∷ cs) ≡ true → (n ≡ c.1 → ⊥) × (apart n cs ≡ true)
-split_apart n c cs h = let p = both (not (eqb n c.1)) (apart n cs) h in (differs n c.1 p.0, p.1)
+split_apart n c cs h = let p = and_parts (not (eqb n c.1)) (apart n cs) h in (eqb-false n c.1 (not-true _ p.0), p.1)
 
 not_first : (n : ℕ) (cs : List (Bool × ℕ)) → apart n cs ≡ true → n ≡ first_of cs → ⊥
-not_first n [] h = differs n 0 h
+not_first n [] h = eqb-false n 0 (not-true _ h)
 not_first n (c ∷ cs) h = go c.0 (not_first n cs (split_apart n c cs h).1)
   where
     go : (b : Bool) → (n ≡ first_of cs → ⊥) → n ≡ cond b c.1 (first_of cs) → ⊥
@@ -44,14 +41,14 @@ not_first n (c ∷ cs) h = go c.0 (not_first n cs (split_apart n c cs h).1)
     go false k = k
 
 none_left : (cs : List (Bool × ℕ)) (o : ℕ) (Before : Type 0) → (Before → ⊥) → apart o cs ≡ true → Exactly o Before cs
-none_left [] o Before never h = (λ e. absurd (differs o 0 h e), λ b. absurd (never b))
+none_left [] o Before never h = (λ e. absurd (eqb-false o 0 (not-true _ h) e), λ b. absurd (never b))
 none_left (c ∷ cs) o Before never h =
     let p = split_apart o c cs h in
     ((λ e. absurd (p.0 e), λ b. absurd (never b.0)), none_left cs o (Before × (c.0 ≡ false)) (λ b. never b.0) p.1)
 
 from_here : (cs : List (Bool × ℕ)) (Before : Type 0) → Before → distinct cs ≡ true → Exactly (first_of cs) Before cs
 from_here [] Before b d = (λ _. b, λ _. refl)
-from_here (c ∷ cs) Before b d = go c.0 (both (apart c.1 cs) (distinct cs) d) (from_here cs)
+from_here (c ∷ cs) Before b d = go c.0 (and_parts (apart c.1 cs) (distinct cs) d) (from_here cs)
   where
     go : (q : Bool) → (apart c.1 cs ≡ true) × (distinct cs ≡ true) → ((X : Type 0) → X → distinct cs ≡ true → Exactly (first_of cs) X cs)
         → Exactly (cond q c.1 (first_of cs)) Before ((q, c.1) ∷ cs)

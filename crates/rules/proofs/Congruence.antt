@@ -5,10 +5,11 @@ use mathlib.Core.Path.{◌≡◌, refl, sym, ap, ◌∙◌}
 use native.Mathlib.Nat.{mod-eq_of_lt, mod-add-mod, add-mul-mod_self_right, div-add-mod'}
 use native.Mathlib.Omega.{arith}
 use lib.IntN.{ℤ, pos, negsuc, neg_ℤ, sub_ℕ, ◌+ℤ◌, ◌-ℤ◌, +ℤ_idl}
+use Rattle.std.proofs.lemmas.Nat.{mod_below}
 use Rattle.rules.specs.Words.{modulo}
 use Rattle.rules.specs.Counts.{ahead}
 use Rattle.rules.specs.Switches.{advance_shift, moved}
-use Rattle.rules.proofs.Laws.{minus, mod_below, modulo_below, modulo_natural, add_differences, ahead_below}
+use Rattle.rules.proofs.Laws.{minus, modulo_below, modulo_natural, add_differences, ahead_below}
 
 -- x and y are congruent mod t + 1, and so are these and a number more
 more : (t x y u : ℕ) → x % (t + 1) ≡ y % (t + 1) → (x + u) % (t + 1) ≡ (y + u) % (t + 1)
@@ -21,7 +22,7 @@ congruent t x y u a b e p q = rw (p, q) (more t x y u e)
 -- u and what it lacks to the next multiple
 filled : (t x u : ℕ) → (x + u + (t + 1 - u % (t + 1))) % (t + 1) ≡ x % (t + 1)
 filled t x u =
-    let e : x + u + (t + 1 - u % (t + 1)) ≡ x + 1 * (t + 1) + u / (t + 1) * (t + 1) = omega (arith, div-add-mod' u (t + 1), mod_below u t) in
+    let e : x + u + (t + 1 - u % (t + 1)) ≡ x + 1 * (t + 1) + u / (t + 1) * (t + 1) = omega (arith, div-add-mod' u (t + 1), mod_below u (t + 1) (omega arith)) in
     rw e (add-mul-mod_self_right (x + 1 * (t + 1)) (u / (t + 1)) (t + 1) ∙ add-mul-mod_self_right x 1 (t + 1))
 
 -- a number less on both sides

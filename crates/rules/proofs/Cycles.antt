@@ -3,8 +3,10 @@ use Prim.Native.Nat.{ℕ}
 use mathlib.Core.Path.{◌≡◌, refl}
 use mathlib.Core.Bool.{Bool, true, false, cond, not, ◌&&◌, ◌||◌, false≢true}
 use mathlib.Core.List.{List}
+use mathlib.Core.Logic.{inl, inr}
 use lib.ListN.{length}
 use lib.Dec.{eqb}
+use Rattle.std.proofs.lemmas.Bool.{cases_Bool}
 use Rattle.rules.specs.declared.Programming.{Programming}
 use Rattle.rules.specs.declared.Configuration.{Configuration}
 use Rattle.rules.specs.declared.Sample.{Sample}
@@ -14,12 +16,11 @@ use Rattle.rules.specs.declared.Cycle.{Cycle}
 use Rattle.rules.specs.declared.Cycle.TheVariants.{OfFile, NudgeCycle}
 use Rattle.rules.specs.declared.Refusal.{Refusal}
 use Rattle.rules.specs.declared.Refusal.TheVariants.{NudgeOutput, NudgeSetpoint}
-use Rattle.rules.specs.declared.Outcome.TheVariants.{Idle}
 use Rattle.rules.specs.declared.Decision.{Decision}
 use Rattle.rules.specs.Words.{bit}
 use Rattle.rules.specs.Motion.{scale_factor}
 use Rattle.rules.specs.Switches.{limit_of}
-use Rattle.rules.specs.Cycle.{is_accepted, transmit_bit, with_acknowledges, with_acknowledge, with_fault, with_raw, acts, underway, idle_cycle, cycle, turned_away, stands, ignored_cycle, refused_cycle, accepted_cycle, judged}
+use Rattle.rules.specs.Cycle.{is_accepted, transmit_bit, acts, underway, idle_cycle, cycle, turned_away, stands, ignored_cycle, refused_cycle, accepted_cycle, judged}
 use Rattle.rules.specs.FileCycle.{file_length, length_refusal, data_refusal, barred, file_errors, brought, command, clears, file_acts, file_cycle}
 use Rattle.rules.specs.Nudge.{nudge_clear_bit, nudge_output, nudge_pair, nudge_output_bad, nudge_setpoint_bad, nudged_programming, nudge_acts, nudge_cycle}
 use Rattle.rules.specs.Calls.{sound, step_configuration}
@@ -33,11 +34,8 @@ pub record Leaves (m : ℕ) (old new : Programming) (checks : Bool) (r : Decisio
 -- so what holds of the new programming where the checks passed, and of the old one, holds of the result, accepted or not
 pub either_way : {m : ℕ} {old new : Programming} {checks : Bool} {r : Decision} → Leaves m old new checks r → (P : Programming → Bool → Type 0)
     → (checks ≡ true → P new true) → P old false → P r.configuration.programming (is_accepted r.outcome)
-either_way {old = old} {new = new} {r = r} k P a b = rw k.programming (go (is_accepted r.outcome) refl)
-  where
-    go : (q : Bool) → is_accepted r.outcome ≡ q → P (cond q new old) q
-    go true e = a (k.passed e)
-    go false e = b
+either_way {old = old} {new = new} {r = r} k P a b =
+    rw k.programming (elim (cases_Bool (is_accepted r.outcome)) [ inl e ↦ rw e (a (k.passed e)) | inr e ↦ rw e b ])
 
 turned_away_lem : (why : Refusal) (g : Configuration) (new : Programming) (q : Bool) → Leaves g.model g.programming new q (turned_away why g)
 unfolding turned_away
@@ -53,14 +51,15 @@ judged_leaves false false errors why new g e = rw e (record { model = refl; prog
 cycle_leaves : (kind : Cycle) (command : ℕ) (clear : Bool) (act : Configuration → Decision) (g : Configuration) (new : Programming) (q : Bool)
     → Leaves g.model g.programming new q (act (underway kind clear g)) → Leaves g.model g.programming new q (cycle kind command clear act g)
 unfolding cycle idle_cycle
-cycle_leaves kind command clear act g new q k = go (acts kind command g) (bit command transmit_bit)
-  where
-    go : (a b : Bool)
-        → Leaves g.model g.programming new q
-        (cond a (act (underway kind clear g)) (record { configuration = cond b g (with_acknowledges g (with_acknowledge kind false g.acknowledges)); outcome = Idle }))
-    go true b = k
-    go false true = record { model = refl; programming = refl; passed = λ e. absurd (false≢true e) }
-    go false false = record { model = refl; programming = refl; passed = λ e. absurd (false≢true e) }
+cycle_leaves kind command clear act g new q k =
+    elim (cases_Bool (acts kind command g)) [
+      | inl a ↦ rw a k
+      | inr a ↦
+          elim (cases_Bool (bit command transmit_bit)) [
+            | inl b ↦ rw (a, b) (record { model = refl; programming = refl; passed = λ e. absurd (false≢true e) })
+            | inr b ↦ rw (a, b) (record { model = refl; programming = refl; passed = λ e. absurd (false≢true e) })
+          ]
+    ]
 
 -- a cycle that takes a file: what it reads of the configuration is not changed by transmit and ClrErr
 pub errors_underway : (kind : FileCycle) (c : Cycle) (clear : Bool) (g : Configuration) (file : List ℕ) → file_errors kind (underway c clear g) file ≡ file_errors kind g file
@@ -129,16 +128,8 @@ nudge_leaves g w =
 -- a step changes neither
 pub step_model : (g : Configuration) (s : Sample) → (step_configuration g s).model ≡ g.model
 unfolding step_configuration
-step_model g s = go (sound g s)
-  where
-    go : (q : Bool) → (cond q (with_raw g s.raw) (with_fault g true)).model ≡ g.model
-    go true = refl
-    go false = refl
+step_model g s = elim (cases_Bool (sound g s)) [ inl e ↦ rw e | inr e ↦ rw e ]
 
 pub step_programming : (g : Configuration) (s : Sample) → (step_configuration g s).programming ≡ g.programming
 unfolding step_configuration
-step_programming g s = go (sound g s)
-  where
-    go : (q : Bool) → (cond q (with_raw g s.raw) (with_fault g true)).programming ≡ g.programming
-    go true = refl
-    go false = refl
+step_programming g s = elim (cases_Bool (sound g s)) [ inl e ↦ rw e | inr e ↦ rw e ]

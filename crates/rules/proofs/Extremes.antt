@@ -17,7 +17,7 @@ use Rattle.rules.specs.Calls.{raw_most, default_setup, fresh_configuration, soun
 use Rattle.rules.specs.Run.{run}
 use Rattle.rules.specs.Sums.{least_big_c, most_big_c, least_c, most_c, most_product, sample_at, steps_by, backward, forward}
 use Rattle.rules.specs.History.{configuration_of, setup_in_force, is_module_start, since, turned_in, since_module_start, movement_from, movements, total, window_total, c_of, big_c_of, rpm_at}
-use Rattle.rules.proofs.Laws.{minus, mod_below, add_differences, biased_natural}
+use Rattle.rules.proofs.Laws.{minus, add_differences, biased_natural}
 use Rattle.rules.proofs.Windows.{length_movements}
 use Rattle.rules.proofs.Agreement.{agrees}
 
@@ -52,7 +52,6 @@ length_qs by (suc n) = ap suc (length_qs by n)
 -- what lies between two in a row
 between : (a by : ℕ) → ((a + by) % 1024 + (1024 - a % 1024 % 1024) + 512) % 1024 ≡ (by + 512) % 1024
 between a by =
-    let b = mod_below a 1023 in
     let d = div-add-mod' a 1024 in
     let r : ℕ = 1024 - a % 1024 + 512 in
     let e : (a + by) % 1024 + (1024 - a % 1024) + 512 ≡ r + (a + by) % 1024 = omega arith in
@@ -93,7 +92,7 @@ unfolding sound
 sound_step g raw k b = rw (le-leb raw raw_most b, k.fault)
 
 in_range : (n : ℕ) → n % 1024 ≤ raw_most
-in_range n = let b = mod_below n 1023 in omega arith
+in_range n = omega arith
 
 fresh_untouched : (model : Model) → Untouched (fresh_configuration model)
 unfolding fresh_configuration

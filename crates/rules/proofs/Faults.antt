@@ -1,6 +1,6 @@
 -- Demand 1 of the step, for every module and sample: 11 comes exactly where 01 lists it, and what such a step reports and leaves. Assumes nothing.
 use Prim.Native.Nat.{ℕ, ◌+◌, ◌-◌, ◌*◌, ◌^◌, ◌<◌}
-use mathlib.Core.Bool.{Bool, true, false, cond, not, ◌&&◌, ◌||◌, true≢false, or-true, not-not}
+use mathlib.Core.Bool.{Bool, true, false, cond, not, ◌&&◌, ◌||◌, or-true, and-false, not-not}
 use mathlib.Core.List.{List, [], ◌∷◌}
 use mathlib.Core.Logic.{◌↔◌, ◌⊎◌, ⊎_elim, inl, inr}
 use mathlib.Core.Path.{◌≡◌, refl, ap, ◌∙◌}
@@ -8,6 +8,7 @@ use native.Mathlib.Omega.{arith}
 use native.Mathlib.Nat.{div-eq_of_lt}
 use borrow.Author.Tests.{ltb-true, leb-true, leb-false, lt-ltb, le-ltb}
 use lib.Dec.{ltb, leb}
+use Rattle.std.proofs.lemmas.Bool.{or_cases, or_parts, cases_Bool}
 use Rattle.rules.specs.declared.Model.{Model}
 use Rattle.rules.specs.declared.DecimalCode.{DecimalCode}
 use Rattle.rules.specs.declared.DecimalCode.TheVariants.{Code0, Code1, Code2, Code3}
@@ -27,7 +28,6 @@ use Rattle.rules.specs.Bus.{shown_by, requested}
 use Rattle.rules.specs.Calls.{sound, step_configuration}
 use Rattle.rules.specs.Card.{module_start, outputs_now, since_now, step_answer, kept_after, step_state, step_call}
 use Rattle.rules.proofs.Packing.{packed_bit}
-use Rattle.rules.proofs.Past.{either, by}
 use Rattle.rules.proofs.Causes.{first_of, Exactly, exactly}
 
 -- ---- When 11 comes
@@ -41,15 +41,11 @@ abbrev pub step_causes : Module → Sample → List (Bool × ℕ)
 step_causes m s = (ltb 1023 s.raw || m.configuration.fault, 11) ∷ []
 
 over_reads : (n : ℕ) → leb n 1023 ≡ not (ltb 1023 n)
-over_reads n = by (leb n 1023) (λ t. rw (t, le-ltb 1023 n (leb-true n 1023 t))) (λ f. rw (f, lt-ltb 1023 n (leb-false n 1023 f)))
+over_reads n = elim (cases_Bool (leb n 1023)) [ inl t ↦ rw (t, le-ltb 1023 n (leb-true n 1023 t)) | inr f ↦ rw (f, lt-ltb 1023 n (leb-false n 1023 f)) ]
 
 neither : (a b : Bool) → (not a && not b) ≡ not (a || b)
 neither true b = refl
 neither false b = refl
-
-neither_one : (a b : Bool) → (a || b) ≡ false → b ≡ false
-neither_one true b h = absurd (true≢false h)
-neither_one false b h = h
 
 -- a step that is not answered 11
 pub sound_reads : (g : Configuration) (s : Sample) → sound g s ≡ not (ltb 1023 s.raw || g.fault)
@@ -68,7 +64,7 @@ step_exactly m s = exactly (step_causes m s) _ refl (step_outcome m s)
 -- the same in words: "raw over 1023, or fault latched"
 pub step_11 : (m : Module) (s : Sample) → (step_number (step_call m s).answer ≡ 11) ↔ ((1023 < s.raw) ⊎ (m.configuration.fault ≡ true))
 step_11 m s = (
-  λ e. ⊎_elim (λ t. inl (ltb-true 1023 s.raw t)) (λ f. inr f) (either (ltb 1023 s.raw) m.configuration.fault ((step_exactly m s).0.0 e).1),
+  λ e. ⊎_elim (λ t. inl (ltb-true 1023 s.raw t)) (λ f. inr f) (or_cases (ltb 1023 s.raw) m.configuration.fault ((step_exactly m s).0.0 e).1),
   ⊎_elim (λ h. step_outcome m s ∙ rw (lt-ltb 1023 s.raw h)) (λ f. step_outcome m s ∙ rw (f, or-true (ltb 1023 s.raw))),
 )
 
@@ -111,12 +107,7 @@ fault_shows m s e = rw (unsound m s e, no_tach m.configuration.programming.setup
 -- so each output that is not forced on is off
 unforced : (model : Model) (s : Sample) (n : ℕ) → forced_on s n ≡ false → output_on model s (λ k. false) n ≡ false
 unfolding output_on
-unforced model s n o = rw o (go (present model n) (not (forced_off s n)))
-  where
-    go : (a b : Bool) → (a && (b && false)) ≡ false
-    go true true = refl
-    go true false = refl
-    go false b = refl
+unforced model s n o = rw (o, and-false (not (forced_off s n))) (and-false (present model n))
 
 pub fault_dark : (m : Module) (s : Sample) (n : ℕ) → step_number (step_call m s).answer ≡ 11 → n < 16
     → (bit s.realon n ≡ false → bit (step_call m s).answer.real n ≡ false) × (bit s.virtualon n ≡ false → bit (step_call m s).answer.virtuals n ≡ false)
@@ -177,4 +168,4 @@ pub sound_leaves : (m : Module) (s : Sample) → step_number (step_call m s).ans
 unfolding step_call step_configuration
 sound_leaves m s e =
     let h = ((step_exactly m s).1.0 e).1 in
-    rw (sound_reads m.configuration s ∙ ap not h, neither_one (ltb 1023 s.raw) m.configuration.fault h)
+    rw (sound_reads m.configuration s ∙ ap not h, (or_parts (ltb 1023 s.raw) m.configuration.fault h).1)

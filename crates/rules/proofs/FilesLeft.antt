@@ -1,13 +1,14 @@
 -- Demand 1, the file after a call: whatever the outcome, only the status words change; which words an acting cycle puts first. Assumes nothing.
-use Prim.Native.Nat.{ℕ, ◌+◌, ◌<◌, ◌≤◌}
-use mathlib.Core.Bool.{Bool, true, false, cond, ◌&&◌}
-use mathlib.Core.List.{List, ◌∷◌}
+use Prim.Native.Nat.{ℕ, ◌<◌, ◌≤◌}
+use mathlib.Core.Bool.{Bool, true, cond}
+use mathlib.Core.List.{List}
+use mathlib.Core.Logic.{inl, inr}
 use mathlib.Core.Path.{◌≡◌, refl, sym, ◌∙◌}
 use native.Mathlib.Omega.{arith}
-use borrow.Author.Tests.{eqb-true, ltb-true, ltb-false}
-use lib.ListN.{length, get_or, set, length-set, get_or-eq_default}
-use lib.Seq.{get_or-set_same}
-use lib.Dec.{eqb, ltb}
+use borrow.Author.Tests.{eqb-true, eq-eqb, ne_eqb}
+use lib.ListN.{length, get_or, get_or-eq_default}
+use lib.Dec.{eqb}
+use Rattle.std.proofs.lemmas.Bool.{cases_lt, cases_Bool, cases_eq}
 use Rattle.rules.specs.declared.FileCycle.{FileCycle}
 use Rattle.rules.specs.declared.FileCycle.TheVariants.{SetupCycle, GroupCycle, LimitCycle}
 use Rattle.rules.specs.declared.Cycle.TheVariants.{OfFile}
@@ -16,8 +17,7 @@ use Rattle.rules.specs.Words.{stored_at}
 use Rattle.rules.specs.Cycle.{acts}
 use Rattle.rules.specs.FileCycle.{file_length, status_at, file_errors, failing, command, file_cycle, status_words, file_after}
 use Rattle.rules.specs.Card.{file_left}
-use Rattle.rules.proofs.Laws.{length_stored, stored_outside}
-use Rattle.rules.proofs.Past.{by}
+use Rattle.rules.proofs.Laws.{length_stored, stored_outside, stored_word}
 
 -- 01's lengths, and the word with transmit and ClrErr, of each kind
 abbrev pub length_of : FileCycle → ℕ
@@ -32,22 +32,15 @@ command_of LimitCycle file = get_or file 0 0
 
 -- ---- Only the status words change
 
--- words stored from a place on leave the others, and are at their places
+-- words stored from a place on leave the others, also where they run past the end
 stored_to_end : (at : ℕ) (ws file : List ℕ) (k : ℕ) → ((at ≤ k) × (k < length file) → ⊥) → get_or (stored_at at ws file) k 0 ≡ get_or file k 0
 stored_to_end at ws file k h =
-    by (ltb k (length file))
-    (λ t. stored_outside at ws file k (λ p. h (p.0, ltb-true k (length file) t)))
-    (λ f. let z : length file ≤ k = ltb-false k (length file) f in
-    let y : length (stored_at at ws file) ≤ k = rw (length_stored at ws file) z in
-    get_or-eq_default (stored_at at ws file) 0 y ∙ sym (get_or-eq_default file 0 z))
-
-stored_first : (at w : ℕ) (ws file : List ℕ) → at < length file → get_or (stored_at at (w ∷ ws) file) at 0 ≡ w
-unfolding stored_at
-stored_first at w ws file h = stored_outside (at + 1) ws (set file at w) at (λ p. omega arith) ∙ get_or-set_same file at w 0 h
-
-stored_second : (at v w : ℕ) (ws file : List ℕ) → at + 1 < length file → get_or (stored_at at (v ∷ w ∷ ws) file) (at + 1) 0 ≡ w
-unfolding stored_at
-stored_second at v w ws file h = stored_first (at + 1) w ws (set file at v) (simp length-set h)
+    elim (cases_lt k (length file)) [
+      | inl t ↦ stored_outside at ws file k (λ p. h (p.0, t))
+      | inr z ↦
+          let y : length (stored_at at ws file) ≤ k = rw (length_stored at ws file) z in
+          get_or-eq_default (stored_at at ws file) 0 y ∙ sym (get_or-eq_default file 0 z)
+    ]
 
 -- "An acting cycle rewrites its status words (100–109, 110–119, M1 630–649)"
 abbrev pub Outside : FileCycle → ℕ → Type 0
@@ -64,12 +57,11 @@ stored kind m file =
 file_either : (P : List ℕ → Type 0) (kind : FileCycle) (m : Module) (file : List ℕ) → P file
     → (length file ≡ file_length kind → P (stored_at (status_at kind) (stored kind m file) file)) → P (file_left kind m file)
 unfolding file_left file_after
-file_either P kind m file p q = go (eqb (length file) (file_length kind)) (acts (OfFile kind) (command kind file) m.configuration) (λ t. q (eqb-true (length file) (file_length kind) t))
-  where
-    go : (l a : Bool) → (l ≡ true → P (stored_at (status_at kind) (stored kind m file) file)) → P (cond (l && a) (stored_at (status_at kind) (stored kind m file) file) file)
-    go true true h = h refl
-    go true false h = p
-    go false a h = p
+file_either P kind m file p q =
+    elim (cases_eq (length file) (file_length kind)) [
+      | inl l ↦ elim (cases_Bool (acts (OfFile kind) (command kind file) m.configuration)) [ inl a ↦ rw (eq-eqb _ _ l, a) (q l) | inr a ↦ rw (eq-eqb _ _ l, a) p ]
+      | inr l ↦ rw (ne_eqb _ _ l) p
+    ]
 
 -- all other words are as they were, whatever the outcome
 pub file_outside : (kind : FileCycle) (m : Module) (file : List ℕ) (k : ℕ) → Outside kind k → get_or (file_left kind m file) k 0 ≡ get_or file k 0
@@ -99,10 +91,10 @@ pub acted_status : (kind : FileCycle) (m : Module) (file : List ℕ) (i : Bool) 
 unfolding file_left file_after status_at status_words file_length
 acted_status SetupCycle m file i l a e =
     let n : length file ≡ 120 = eqb-true (length file) 120 l in
-    rw (l, a, e) (stored_first 100 _ _ file (omega arith))
+    rw (l, a, e) (stored_word 100 _ file 0 (omega arith) (omega arith))
 acted_status GroupCycle m file i l a e =
     let n : length file ≡ 120 = eqb-true (length file) 120 l in
-    rw (l, a, e) (stored_first 110 _ _ file (omega arith), stored_second 110 _ _ _ file (omega arith))
+    rw (l, a, e) (stored_word 110 _ file 0 (omega arith) (omega arith), stored_word 110 _ file 1 (omega arith) (omega arith))
 acted_status LimitCycle m file i l a e =
     let n : length file ≡ 650 = eqb-true (length file) 650 l in
-    rw (l, a, e) (stored_first 630 _ _ file (omega arith), stored_second 630 _ _ _ file (omega arith))
+    rw (l, a, e) (stored_word 630 _ file 0 (omega arith) (omega arith), stored_word 630 _ file 1 (omega arith) (omega arith))

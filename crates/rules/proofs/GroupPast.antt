@@ -5,10 +5,12 @@ use mathlib.Core.Path.{◌≡◌, refl, sym, ap, ◌∙◌}
 use mathlib.Core.Bool.{Bool, true, false, cond, not, ◌&&◌, ◌||◌, or-false, and-false, and_self_left, true≢false}
 use mathlib.Core.List.{List, [], ◌∷◌}
 use mathlib.Core.Option.{Option, none, some}
+use mathlib.Core.Logic.{inl, inr}
 use native.Mathlib.Omega.{arith}
 use native.Mathlib.Nat.{add-zero, mod-eq_of_lt, add-mod-mod, add_left_comm}
 use lib.Dec.{eqb}
 use borrow.Author.Tests.{not-true}
+use Rattle.std.proofs.lemmas.Bool.{and_parts, cases_Bool}
 use Rattle.rules.specs.declared.MachinePosition.{MachinePosition}
 use Rattle.rules.specs.declared.Mode.{Mode}
 use Rattle.rules.specs.declared.Mode.TheVariants.{NoMode, Mode0, Mode1, Mode2, Mode3, Mode4, Mode5}
@@ -23,7 +25,7 @@ use Rattle.rules.specs.Card.{position_by, begins_now, takes_now, shift_now, posi
 use Rattle.rules.specs.Quant.{exists, after_each, no_later, latest_saw}
 use Rattle.rules.specs.History.{GroupStep, PastStep, begins_at, takes_at, level_at, first_at, edge_at, first_edge_at, stop_at, running_at, last_taken, preset_position, position_from, position_at, dwell_at, begins, takes, latest_dwell_saw, qualifies_at, counts_at, open_at}
 use Rattle.rules.proofs.Laws.{ahead_natural, ahead_below}
-use Rattle.rules.proofs.Past.{both, none_of, all_of, now, after_step, later_step}
+use Rattle.rules.proofs.Past.{none_of, all_of, now, after_step, later_step}
 use Rattle.rules.proofs.Stretch.{Lawful, saw_step}
 
 -- ---- Positions
@@ -88,7 +90,7 @@ pub no_stop : (h : Bool) (e : Event) → (h && running e) ≡ true → stops e �
 unfolding running stops is_stop
 no_stop h e t =
     let r : eqb e.rpm 0 ≡ false =
-    not-true (eqb e.rpm 0) (both e.level (not (eqb e.rpm 0)) (both h (e.level && not (eqb e.rpm 0)) t).1).1 in
+    not-true (eqb e.rpm 0) (and_parts e.level (not (eqb e.rpm 0)) (and_parts h (e.level && not (eqb e.rpm 0)) t).1).1 in
     rw (r, and-false)
 
 module _ (t : ℕ) (g : Group) (x : GroupState) (e : Event) (h : List PastStep) (k : GroupLink (t + 1) (group_mode g) x h) (b : e.machine.0 < t + 1) where
@@ -112,12 +114,7 @@ module _ (t : ℕ) (g : Group) (x : GroupState) (e : Event) (h : List PastStep) 
 
   shift_is : shift_now (t + 1) g x e ≡ shift_of (t + 1) (last_taken N)
   unfolding shift_now shift_of last_taken
-  shift_is = rw (takes_is, k.shift) (go (takes S h))
-    where
-      go : (q : Bool)
-          → cond q (preset_shift (t + 1) g.offset e.machine) (shift_of (t + 1) (last_taken h)) ≡ shift_of (t + 1) (cond q (some P) (last_taken h))
-      go true = refl
-      go false = refl
+  shift_is = rw (takes_is, k.shift) (elim (cases_Bool (takes S h)) [ inl q ↦ rw q | inr q ↦ rw q ])
 
   pub position_is : position_now (t + 1) g x e ≡ position_at N
   unfolding position_now position_at

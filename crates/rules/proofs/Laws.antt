@@ -1,22 +1,19 @@
 -- Laws that more than one proof cites: the difference modulo SF as sums and remainders of naturals, and words stored into a file.
 -- Assumes nothing.
 use Prim.Native.Nat.{ℕ, zero, suc, ◌+◌, ◌-◌, ◌*◌, ◌/◌, ◌%◌, ◌≤◌, ◌<◌}
-use mathlib.Core.Bool.{Bool, true, false}
 use mathlib.Core.Path.{◌≡◌, refl, sym, ap, ◌∙◌}
 use mathlib.Core.List.{List, [], ◌∷◌}
-use native.Mathlib.Nat.{mod-lt, mod-eq_of_lt, add-mod_right, add-mul-mod_self_right, div-add-mod'}
+use mathlib.Core.Logic.{inl, inr}
+use native.Mathlib.Nat.{mod-eq_of_lt, add-mod_right, add-mul-mod_self_right, div-add-mod'}
 use native.Mathlib.Omega.{arith}
-use borrow.Author.Tests.{ltb-true, ltb-false, le-ltb}
+use borrow.Author.Tests.{le-ltb, lt-ltb}
 use lib.ListN.{length, get_or, set, length-set}
-use lib.Seq.{get_or-set_other}
-use lib.Dec.{ltb}
+use lib.Seq.{get_or-set_same, get_or-set_other}
 use lib.IntN.{ℤ, pos, negsuc, neg_ℤ, sub_ℕ, ◌+ℤ◌, ◌-ℤ◌, +ℤ_assoc, +ℤ_comm, neg_ℤ-+ℤ}
+use Rattle.std.proofs.lemmas.Nat.{mod_below}
+use Rattle.std.proofs.lemmas.Bool.{cases_lt}
 use Rattle.rules.specs.Words.{modulo, stored_at}
 use Rattle.rules.specs.Counts.{ahead}
-
--- a number that is not 0
-pub positive : (n : ℕ) → (n ≡ 0 → ⊥) → 0 < n
-positive n k = omega arith
 
 -- a − b of two naturals
 pub minus : (a b : ℕ) → pos a -ℤ pos b ≡ sub_ℕ a b
@@ -41,38 +38,30 @@ difference_add a b c =
     let f : b + 0 ≡ b = omega arith in
     rw (← minus a b, ← minus (a + c) b) (rw (e, f) at (add_differences a b c 0))
 
--- a remainder stays below its divisor
-pub mod_below : (x t : ℕ) → x % (t + 1) < t + 1
-mod_below x t = mod-lt x (omega arith)
-
 pub modulo_below : (z : ℤ) (t : ℕ) → modulo z (t + 1) < t + 1
 unfolding modulo
-modulo_below (pos n) t = mod_below n t
+modulo_below (pos n) t = mod_below n (t + 1) (omega arith)
 modulo_below (negsuc n) t = omega arith
 
 -- (a − b) mod n: to a add what b lacks to the next multiple of n
-by_order : (a b t : ℕ) (less : Bool) → ltb a b ≡ less → modulo (sub_ℕ a b) (t + 1) ≡ (a + (t + 1 - b % (t + 1))) % (t + 1)
-unfolding modulo
-by_order a b t true h =
-    let n : ℕ = t + 1 in
-    let k : ℕ = b - suc a in
-    let l : a < b = ltb-true a b h in
-    let r : ℕ = t + 1 - 1 - k % (t + 1) in
-    let e : a + (t + 1 - b % (t + 1)) + k / (t + 1) * (t + 1) ≡ r + b / (t + 1) * (t + 1) =
-    omega (arith, div-add-mod' k (t + 1), div-add-mod' b (t + 1), mod_below k t, mod_below b t) in
-    rw h
-    (sym (mod-eq_of_lt (omega arith))
-    ∙ sym (add-mul-mod_self_right r (b / (t + 1)) (t + 1))
-    ∙ ap (λ (x : ℕ). x % (t + 1)) (sym e)
-    ∙ add-mul-mod_self_right (a + (t + 1 - b % (t + 1))) (k / (t + 1)) (t + 1))
-by_order a b t false h =
-    let l : b ≤ a = ltb-false a b h in
-    let e : a + (t + 1 - b % (t + 1)) ≡ a - b + 1 * (t + 1) + b / (t + 1) * (t + 1) =
-    omega (arith, div-add-mod' b (t + 1), mod_below b t) in
-    rw (h, e) (sym (add-mul-mod_self_right (a - b + 1 * (t + 1)) (b / (t + 1)) (t + 1) ∙ add-mul-mod_self_right (a - b) 1 (t + 1)))
-
 pub modulo_natural : (a b t : ℕ) → modulo (sub_ℕ a b) (t + 1) ≡ (a + (t + 1 - b % (t + 1))) % (t + 1)
-modulo_natural a b t = by_order a b t (ltb a b) refl
+unfolding modulo
+modulo_natural a b t = elim (cases_lt a b) [
+  | inl l ↦
+      let k : ℕ = b - suc a in
+      let r : ℕ = t + 1 - 1 - k % (t + 1) in
+      let e : a + (t + 1 - b % (t + 1)) + k / (t + 1) * (t + 1) ≡ r + b / (t + 1) * (t + 1) =
+      omega (arith, div-add-mod' k (t + 1), div-add-mod' b (t + 1), mod_below k (t + 1) (omega arith), mod_below b (t + 1) (omega arith)) in
+      rw (lt-ltb a b l)
+      (sym (mod-eq_of_lt (omega arith))
+      ∙ sym (add-mul-mod_self_right r (b / (t + 1)) (t + 1))
+      ∙ ap (λ (x : ℕ). x % (t + 1)) (sym e)
+      ∙ add-mul-mod_self_right (a + (t + 1 - b % (t + 1))) (k / (t + 1)) (t + 1))
+  | inr l ↦
+      let e : a + (t + 1 - b % (t + 1)) ≡ a - b + 1 * (t + 1) + b / (t + 1) * (t + 1) =
+      omega (arith, div-add-mod' b (t + 1), mod_below b (t + 1) (omega arith)) in
+      rw (le-ltb a b l, e) (sym (add-mul-mod_self_right (a - b + 1 * (t + 1)) (b / (t + 1)) (t + 1) ∙ add-mul-mod_self_right (a - b) 1 (t + 1)))
+]
 
 -- ((q − last + 512) mod 1024) of a movement
 pub biased_natural : (last q : ℕ) → modulo (sub_ℕ q last +ℤ pos 512) 1024 ≡ (q + (1024 - last % 1024) + 512) % 1024
@@ -111,3 +100,14 @@ unfolding stored_at
 stored_outside at [] file k h = refl
 stored_outside at (w ∷ ws) file k h =
     stored_outside (at + 1) ws (set file at w) k (λ p. h (omega arith, omega arith)) ∙ get_or-set_other file at k w 0 (λ e. h (omega arith, omega arith))
+
+-- word k of them is at their place + k
+pub stored_word : (at : ℕ) (ws file : List ℕ) (k : ℕ) → k < length ws → at + k < length file → get_or (stored_at at ws file) (at + k) 0 ≡ get_or ws k 0
+unfolding stored_at
+stored_word at [] file k h f = absurd (omega arith)
+stored_word at (w ∷ ws) file zero h f =
+    let e : at + 0 ≡ at = omega arith in
+    rw e (stored_outside (at + 1) ws (set file at w) at (λ p. omega arith) ∙ get_or-set_same file at w 0 (omega arith))
+stored_word at (w ∷ ws) file (suc k) h f =
+    let e : at + suc k ≡ at + 1 + k = omega arith in
+    rw e (stored_word (at + 1) ws (set file at w) k (omega arith) (omega (arith, length-set file at w)))

@@ -1,14 +1,16 @@
 -- 02, request 5/14: what the length says of a pair of a normal or timed switch, for every scale factor, c and switch. Assumes nothing.
 use Prim.Native.Nat.{ℕ, zero, suc, ◌+◌, ◌-◌, ◌≤◌, ◌<◌}
-use mathlib.Core.Bool.{Bool, true, false, cond, ◌&&◌, false≢true}
+use mathlib.Core.Bool.{Bool, true, false, cond, ◌&&◌}
 use mathlib.Core.Logic.{◌↔◌, ◌⊎◌, inl, inr, ⊎_elim}
 use mathlib.Core.Path.{◌≡◌, refl, sym, ap, ◌∙◌}
 use native.Mathlib.Nat.{mod-eq_of_lt}
 use native.Mathlib.Omega.{arith}
-use borrow.Author.Tests.{ltb-true, ltb-false, leb-true, lt-ltb, le-ltb}
-use lib.Dec.{T, ltb, leb, lt→ltb, ltb→lt, le→leb}
+use borrow.Author.Tests.{leb-true, lt-ltb, le-ltb}
+use lib.Dec.{ltb, leb, lt→ltb, ltb→lt, le→leb}
 use lib.IntN.{ℤ, pos, negsuc, ◌+ℤ◌, ◌-ℤ◌, +ℤ-neg_ℤ_cancel}
 use lib.Signed.{◌≤ℤ◌, ◌<ℤ◌, lt_z, le_z_yes, lt_z_yes, <ℤ-≤ℤ_trans, clash_ℤ}
+use Rattle.std.proofs.lemmas.Bool.{and_parts, and_from, false_from_ne_true, true_from_ne_false, cases_lt}
+use Rattle.std.proofs.lemmas.Float.{T_from_true}
 use Rattle.rules.specs.declared.Advance.{Advance}
 use Rattle.rules.specs.declared.Limit.{Limit}
 use Rattle.rules.specs.declared.Position.{Position}
@@ -16,7 +18,6 @@ use Rattle.rules.specs.Words.{modulo, count_of}
 use Rattle.rules.specs.Counts.{ahead, holds, used_pair}
 use Rattle.rules.specs.Switches.{advance_value, advance_shift, moved, count_at, on_setpoint, off_setpoint, on_shift, off_shift, pair_length, holds_for, pair_holds}
 use Rattle.rules.proofs.Laws.{modulo_below, ahead_below, ahead_up, ahead_round}
-use Rattle.rules.proofs.Past.{both, pair, by}
 use Rattle.rules.proofs.Congruence.{moved_apart}
 
 -- ---- One comparison
@@ -49,14 +50,6 @@ pub pair_signed : (t : ℕ) (c : ℤ) (l : Limit) (k : ℕ) (p : Position) →
 unfolding pair_holds
 pair_signed t c l k p = rw (holds_signed t (pair_length (t + 1) c l k) (moved_on (t + 1) c l k) (count_at p))
 
-as_true : (b : Bool) → T b → b ≡ true
-as_true true x = refl
-as_true false x = absurd x
-
-as_told : (b : Bool) → b ≡ true → T b
-as_told true e = tt
-as_told false e = absurd (false≢true e)
-
 -- a natural below a whole number, which is then over 0
 below_positive : (a : ℕ) (z : ℤ) → pos a <ℤ z → pos 0 <ℤ z
 below_positive a (pos n) h = lt_z_yes (lt→ltb 0 n (omega (arith, ltb→lt a n h.lt)))
@@ -69,10 +62,10 @@ pub pair_exactly : (t : ℕ) (c : ℤ) (l : Limit) (k : ℕ) (p : Position) →
     × ((pos (t + 1) ≤ℤ pair_length (t + 1) c l k)
     ⊎ ((pos 0 <ℤ pair_length (t + 1) c l k) × (pos (ahead (t + 1) (moved_on (t + 1) c l k) (count_at p)) <ℤ pair_length (t + 1) c l k))))
 pair_exactly t c l k p = (
-  λ e. let b = both (used l k) _ (sym (pair_signed t c l k p) ∙ e) in
-      let h : pos a <ℤ z = lt_z_yes (as_told _ b.1) in
+  λ e. let b = and_parts (used l k) _ (sym (pair_signed t c l k p) ∙ e) in
+      let h : pos a <ℤ z = lt_z_yes (T_from_true _ b.1) in
       (b.0, inr (below_positive a z h, h)),
-  λ x. pair_signed t c l k p ∙ pair x.0 (as_true _ (⊎_elim (λ more. <ℤ-≤ℤ_trans within more) (λ y. y.1) x.1).lt),
+  λ x. pair_signed t c l k p ∙ and_from _ _ x.0 (true_from_ne_false (lt_z (pos a) z) (λ e. rw e at (⊎_elim (λ more. <ℤ-≤ℤ_trans within more) (λ y. y.1) x.1).lt)),
 )
   where
     a : ℕ
@@ -87,10 +80,8 @@ pair_exactly t c l k p = (
 -- "At 0 or less the pair never holds."
 pub never_holds : (t : ℕ) (c : ℤ) (l : Limit) (k : ℕ) (p : Position) → pair_length (t + 1) c l k ≤ℤ pos 0 → pair_holds (t + 1) c l k p ≡ false
 never_holds t c l k p h =
-    by (pair_holds (t + 1) c l k p)
-    (λ e. let x = (pair_exactly t c l k p).0 e in
-    ⊎_elim (λ more. clash_ℤ (<ℤ-≤ℤ_trans (lt_z_yes (lt→ltb 0 (t + 1) (omega arith))) more) h) (λ y. clash_ℤ y.0 h) x.1)
-    (λ e. e)
+    false_from_ne_true _
+    (λ e. ⊎_elim (λ more. clash_ℤ (<ℤ-≤ℤ_trans (lt_z_yes (lt→ltb 0 (t + 1) (omega arith))) more) h) (λ y. clash_ℤ y.0 h) ((pair_exactly t c l k p).0 e).1)
 
 -- "At SF or more it always holds."
 pub always_holds : (t : ℕ) (c : ℤ) (l : Limit) (k : ℕ) (p : Position) → used l k ≡ true → pos (t + 1) ≤ℤ pair_length (t + 1) c l k → pair_holds (t + 1) c l k p ≡ true
@@ -175,19 +166,20 @@ count_three x y z n f middle outer e a b c =
 -- Of the SF positions n are less than n counts ahead of a count: they follow it, in one stretch or round the turn.
 so_many : (t n start : ℕ) → start ≤ t → n ≤ t + 1 → count_of (t + 1) 0 (λ p. ltb (ahead (t + 1) start p) n) ≡ n
 so_many t n start s h =
-    by (ltb (t + 1) (start + n))
-    (λ e. let r : t + 1 < start + n = ltb-true (t + 1) (start + n) e in
-    count_three (start + n - (t + 1)) (t + 1 - n) (t + 1 - start) (t + 1) _ false true (omega arith)
-    (λ k a. rw (ahead_round t start k (omega arith) s) (lt-ltb _ n (omega arith)))
-    (λ k a b. rw (ahead_round t start k (omega arith) s) (le-ltb _ n (omega arith)))
-    (λ k a b. rw (ahead_up t start k (omega arith) (omega arith)) (lt-ltb _ n (omega arith)))
-    ∙ omega arith)
-    (λ e. let r : start + n ≤ t + 1 = ltb-false (t + 1) (start + n) e in
-    count_three start n (t + 1 - (start + n)) (t + 1) _ true false (omega arith)
-    (λ k a. rw (ahead_round t start k a s) (le-ltb _ n (omega arith)))
-    (λ k a b. rw (ahead_up t start k a (omega arith)) (lt-ltb _ n (omega arith)))
-    (λ k a b. rw (ahead_up t start k (omega arith) (omega arith)) (le-ltb _ n (omega arith)))
-    ∙ omega arith)
+    elim (cases_lt (t + 1) (start + n)) [
+      | inl r ↦
+          count_three (start + n - (t + 1)) (t + 1 - n) (t + 1 - start) (t + 1) _ false true (omega arith)
+          (λ k a. rw (ahead_round t start k (omega arith) s) (lt-ltb _ n (omega arith)))
+          (λ k a b. rw (ahead_round t start k (omega arith) s) (le-ltb _ n (omega arith)))
+          (λ k a b. rw (ahead_up t start k (omega arith) (omega arith)) (lt-ltb _ n (omega arith)))
+          ∙ omega arith
+      | inr r ↦
+          count_three start n (t + 1 - (start + n)) (t + 1) _ true false (omega arith)
+          (λ k a. rw (ahead_round t start k a s) (le-ltb _ n (omega arith)))
+          (λ k a b. rw (ahead_up t start k a (omega arith)) (lt-ltb _ n (omega arith)))
+          (λ k a b. rw (ahead_up t start k (omega arith) (omega arith)) (le-ltb _ n (omega arith)))
+          ∙ omega arith
+    ]
 
 moved_below : (t : ℕ) (a c : ℤ) (x : ℕ) → moved (t + 1) a c x ≤ t
 unfolding moved

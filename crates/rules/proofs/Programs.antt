@@ -1,10 +1,12 @@
 -- The programming after every list of calls: what power-up has and what each accepted cycle keeps. Assumes nothing.
 use Prim.Native.Nat.{ℕ}
 use mathlib.Core.Path.{◌≡◌, refl, ap, ◌∙◌}
-use mathlib.Core.Bool.{Bool, true, false, cond, not, ◌&&◌, ◌||◌, xor}
+use mathlib.Core.Bool.{Bool, true, false, not, ◌&&◌, xor}
 use mathlib.Core.List.{List, [], ◌∷◌}
+use mathlib.Core.Logic.{inl, inr}
 use lib.Dec.{eqb}
-use borrow.Author.Tests.{eqb-true}
+use borrow.Author.Tests.{eq-eqb, ne_eqb}
+use Rattle.std.proofs.lemmas.Bool.{cases_Bool, cases_eq}
 use Rattle.rules.specs.declared.Model.{Model}
 use Rattle.rules.specs.declared.Model.TheVariants.{NoModule, M8511, M8512, M8513}
 use Rattle.rules.specs.declared.Setup.{Setup}
@@ -67,10 +69,8 @@ module _ (X : Programming → Type 0) (k : Keeps X) where
 pub with_setup_lem : (X : Programming → Type 0) (p : Programming) (u : Setup) → X (no_programs u)
     → (p.setup.top ≡ u.top → X (record { setup = u; groups = p.groups; owners = p.owners; limits = p.limits })) → X (with_setup p u)
 unfolding with_setup
-with_setup_lem X p u dropped stays = go (eqb p.setup.top u.top) (xor p.setup.independent u.independent) refl
-  where
-    go : (same other : Bool) → eqb p.setup.top u.top ≡ same
-        → X (cond (not same || other) (no_programs u) (record { setup = u; groups = p.groups; owners = p.owners; limits = p.limits }))
-    go false other e = dropped
-    go true true e = dropped
-    go true false e = stays (eqb-true p.setup.top u.top e)
+with_setup_lem X p u dropped stays =
+    elim (cases_eq p.setup.top u.top) [
+      | inl e ↦ elim (cases_Bool (xor p.setup.independent u.independent)) [ inl q ↦ rw (eq-eqb _ _ e, q) dropped | inr q ↦ rw (eq-eqb _ _ e, q) (stays e) ]
+      | inr d ↦ rw (ne_eqb _ _ d) dropped
+    ]

@@ -2,12 +2,13 @@
 -- byte accesses are no event for the other calls. Assumes nothing.
 use Prim.Native.Nat.{ℕ, ◌<◌}
 use mathlib.Core.Path.{◌≡◌, refl, sym, ap, ◌∙◌}
-use mathlib.Core.Logic.{◌↔◌}
+use mathlib.Core.Logic.{◌↔◌, inl, inr}
 use mathlib.Core.Bool.{Bool, true, false, not, ◌&&◌, ◌||◌, true≢false, or_comm, and_comm, or-false}
 use mathlib.Core.List.{List, [], ◌∷◌}
 use native.Mathlib.Omega.{arith}
 use lib.Dec.{ltb, eqb}
 use borrow.Author.Tests.{ltb-true, ltb-false, eqb-true, eqb-false, lt-ltb, le-ltb, ne_eqb}
+use Rattle.std.proofs.lemmas.Bool.{and_parts, and_from, cases_Bool}
 use Rattle.std.specs.Prelude.{Ok}
 use Rattle.rules.specs.declared.Model.{Model}
 use Rattle.rules.specs.declared.Bus.{Bus}
@@ -23,7 +24,7 @@ use Rattle.rules.specs.Run.{accessed, module_after, run, reply, replies, is_acce
 use Rattle.rules.specs.Quant.{after_each, no_later}
 use Rattle.rules.specs.History.{configuration_of}
 use Rattle.rules.specs.BusHistory.{last_shown, shown_configuration, byte_told, counted_at, write_at, writes_at, writes_one_at, request_told, mask_told, line_told, bus_told, kept_told, expected_reply, expected_replies}
-use Rattle.rules.proofs.Past.{both, pair, by, AfterEach, after_each→, after_each←, after_step, NoLater, no_later→, no_later←, later_step}
+use Rattle.rules.proofs.Past.{AfterEach, after_each→, after_each←, after_step, NoLater, no_later→, no_later←, later_step}
 use Rattle.rules.proofs.Agreement.{configuration_is}
 use Rattle.rules.proofs.Theorem.{history, ignored_is, positions_are, powered_up_lem}
 
@@ -51,23 +52,29 @@ module _ (b : Bus) (n v : ℕ) where
   pub write_request : (bus_left b (bus_write b n v)).request ≡ (not (eqb n request_byte && bit v 0) && b.request)
   unfolding bus_write stored
   write_request =
-      by (ltb mask_byte n)
-      (λ q. let h = ltb-true 17 n q in rw (q, ne_eqb n 16 (λ e. omega arith)))
-      (λ q. by (ltb n table_bytes)
-      (λ r. let h = ltb-true n 16 r in rw (q, r, ne_eqb n 16 (λ e. omega arith)))
-      (λ r. by (eqb n request_byte) (λ e. rw (q, r, e) (and_comm b.request (not (bit v 0)))) (λ e. rw (q, r, e))))
+      elim (cases_Bool (ltb mask_byte n)) [
+        | inl q ↦ let h = ltb-true 17 n q in rw (q, ne_eqb n 16 (λ e. omega arith))
+        | inr q ↦ elim (cases_Bool (ltb n table_bytes)) [
+          | inl r ↦ let h = ltb-true n 16 r in rw (q, r, ne_eqb n 16 (λ e. omega arith))
+          | inr r ↦ elim (cases_Bool (eqb n request_byte)) [ inl e ↦ rw (q, r, e) (and_comm b.request (not (bit v 0))) | inr e ↦ rw (q, r, e) ]
+        ]
+      ]
 
   pub write_mask : (bus_left b (bus_write b n v)).mask ≡ ((eqb n mask_byte && bit v 0) || (not (eqb n mask_byte) && b.mask))
   unfolding bus_write stored
   write_mask =
-      by (ltb mask_byte n)
-      (λ q. let h = ltb-true 17 n q in rw (q, ne_eqb n 17 (λ e. omega arith)))
-      (λ q. by (ltb n table_bytes)
-      (λ r. let h = ltb-true n 16 r in rw (q, r, ne_eqb n 17 (λ e. omega arith)))
-      (λ r. by (eqb n request_byte)
-      (λ e. let h = eqb-true n 16 e in rw (q, r, e, ne_eqb n 17 (λ e. omega arith)))
-      (λ e. let h = eqb-false n 16 e in let a = ltb-false 17 n q in let c = ltb-false n 16 r in
-      let d : n ≡ 17 = omega arith in rw (q, r, e, d) (sym (or-false (bit v 0))))))
+      elim (cases_Bool (ltb mask_byte n)) [
+        | inl q ↦ let h = ltb-true 17 n q in rw (q, ne_eqb n 17 (λ e. omega arith))
+        | inr q ↦ elim (cases_Bool (ltb n table_bytes)) [
+          | inl r ↦ let h = ltb-true n 16 r in rw (q, r, ne_eqb n 17 (λ e. omega arith))
+          | inr r ↦ elim (cases_Bool (eqb n request_byte)) [
+            | inl e ↦ let h = eqb-true n 16 e in rw (q, r, e, ne_eqb n 17 (λ e. omega arith))
+            | inr e ↦
+                let h = eqb-false n 16 e in let a = ltb-false 17 n q in let c = ltb-false n 16 r in
+                let d : n ≡ 17 = omega arith in rw (q, r, e, d) (sym (or-false (bit v 0)))
+          ]
+        ]
+      ]
 
 -- "It is set by a step whose changed-output count isn't 0, and stays until a 1 is written to that bit."
 pub request_is : (model : Model) (l : List Call) → (run model l).state.kept.bus.request ≡ request_told model l
@@ -115,8 +122,8 @@ pub line_reads : (model : Model) (l : List Call)
     → (line_level (run model l) ≡ true) ↔ (NoLater (writes_one_at mask_byte) (writes_at mask_byte) l × AfterEach (counted_at model) (writes_one_at request_byte) l)
 unfolding line_told mask_told request_told
 line_reads model l = rw (line_is model l) (
-  λ t. let b = both _ _ t in (no_later→ (writes_one_at mask_byte) (writes_at mask_byte) l b.0, after_each→ (counted_at model) (writes_one_at request_byte) l b.1),
-  λ e. pair (no_later← (writes_one_at mask_byte) (writes_at mask_byte) l e.0) (after_each← (counted_at model) (writes_one_at request_byte) l e.1),
+  λ t. let b = and_parts _ _ t in (no_later→ (writes_one_at mask_byte) (writes_at mask_byte) l b.0, after_each→ (counted_at model) (writes_one_at request_byte) l b.1),
+  λ e. and_from _ _ (no_later← (writes_one_at mask_byte) (writes_at mask_byte) l e.0) (after_each← (counted_at model) (writes_one_at request_byte) l e.1),
 )
 
 -- ---- The bytes

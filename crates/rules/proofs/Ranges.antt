@@ -2,14 +2,19 @@
 -- owners, types, detectors, advances, pulse trains and durations in range.
 -- Assumes nothing.
 use Prim.Native.Nat.{ℕ, zero, suc, ◌+◌, ◌-◌, ◌*◌, ◌/◌, ◌%◌, ◌≤◌, ◌<◌}
+use mathlib.Core.Logic.{inl, inr}
 use mathlib.Core.Path.{◌≡◌, refl, ap, subst, ◌∙◌}
 use mathlib.Core.Bool.{Bool, true, false, cond, not, ◌&&◌, ◌||◌, true≢false}
-use mathlib.Core.List.{List, [], ◌∷◌, ◌++◌}
+use mathlib.Core.List.{List, [], ◌∷◌}
 use native.Mathlib.Omega.{arith}
 use lib.ListN.{length, get_or, set, replicate, length-set}
 use lib.Dec.{ltb, leb, eqb, lit<, lit≤}
 use lib.IntN.{sub_ℕ, nat_abs}
 use borrow.Author.Tests.{ltb-true, ltb-false, leb-false, eqb-true, eqb-false, not-true, not-false}
+use Rattle.std.proofs.lemmas.Bool.{and_parts, or_parts, cases_Bool, cases_eq, cases_lt}
+use Rattle.std.specs.List.{All}
+use Rattle.std.proofs.lemmas.List.{get_or_past}
+use Rattle.std.proofs.lemmas.List.Elements.{All-nil, All-cons, All-replicate, All-from_get_or, All-append, All-set}
 use Rattle.rules.specs.declared.Model.{Model}
 use Rattle.rules.specs.declared.Setup.{Setup}
 use Rattle.rules.specs.declared.Group.{Group}
@@ -37,14 +42,9 @@ use Rattle.rules.specs.Calls.{Call, default_setup}
 use Rattle.rules.specs.History.{programming_of}
 use Rattle.rules.proofs.Laws.{modulo_below}
 use Rattle.rules.proofs.Packing.{length_table}
-use Rattle.rules.proofs.Past.{both, by}
 use Rattle.rules.proofs.Programs.{always, with_setup_lem}
 
 -- ---- Tests that fail
-
-neither : (a b : Bool) → (a || b) ≡ false → (a ≡ false) × (b ≡ false)
-neither true b e = absurd (true≢false e)
-neither false b e = (refl, e)
 
 digit_off : (b : Bool) → digit b ≡ 0 → b ≡ false
 digit_off true e = absurd (omega arith)
@@ -58,24 +58,24 @@ none_of_some : (n i : ℕ) (f : ℕ → Bool) → some_of n i f ≡ false → (k
 unfolding some_of
 none_of_some zero i f e k a b = absurd (omega arith)
 none_of_some (suc n) i f e k a b =
-    let p = neither (f i) (some_of n (i + 1) f) e in
-    by (eqb k i) (λ d. ap f (eqb-true k i d) ∙ p.0)
-    (λ d. let c = eqb-false k i d in none_of_some n (i + 1) f p.1 k (omega (arith, c)) (omega arith))
+    let p = or_parts (f i) (some_of n (i + 1) f) e in
+    elim (cases_eq k i) [ inl d ↦ ap f d ∙ p.0 | inr c ↦ none_of_some n (i + 1) f p.1 k (omega (arith, c)) (omega arith) ]
 
 -- where the lowest with f is 0 there is none; where it is not, f holds there
 none_lowest : (n i : ℕ) (f : ℕ → Bool) → 0 < i → lowest_of n i f ≡ 0 → (k : ℕ) → i ≤ k → k < i + n → f k ≡ false
 unfolding lowest_of
 none_lowest zero i f s e k a b = absurd (omega arith)
 none_lowest (suc n) i f s e k a b =
-    by (f i) (λ t. let z : i ≡ 0 = rw t at e in absurd (omega arith))
-    (λ t. by (eqb k i) (λ d. ap f (eqb-true k i d) ∙ t)
-    (λ d. let c = eqb-false k i d in none_lowest n (i + 1) f (omega arith) (rw t at e) k (omega (arith, c)) (omega arith)))
+    elim (cases_Bool (f i)) [
+      | inl t ↦ let z : i ≡ 0 = rw t at e in absurd (omega arith)
+      | inr t ↦ elim (cases_eq k i) [ inl d ↦ ap f d ∙ t | inr c ↦ none_lowest n (i + 1) f (omega arith) (rw t at e) k (omega (arith, c)) (omega arith) ]
+    ]
 
 lowest_has : (n i : ℕ) (f : ℕ → Bool) → (lowest_of n i f ≡ 0 → ⊥) → f (lowest_of n i f) ≡ true
 unfolding lowest_of
 lowest_has zero i f e = absurd (e refl)
 lowest_has (suc n) i f e =
-    by (f i) (λ t. rw (t, t)) (λ t. rw t (lowest_has n (i + 1) f (rw t at e)))
+    elim (cases_Bool (f i)) [ inl t ↦ rw (t, t) | inr t ↦ rw t (lowest_has n (i + 1) f (rw t at e)) ]
 
 -- a file with no failing block: each block's bits are 0
 none_failing : (n : ℕ) (f : ℕ → ℕ) (reserved : Bool)
@@ -84,36 +84,24 @@ none_failing : (n : ℕ) (f : ℕ → ℕ) (reserved : Bool)
     → (k : ℕ) → 1 ≤ k → k ≤ n → f k ≡ 0
 none_failing n f true e k a b = absurd (omega arith)
 none_failing n f false e k a b =
-    by (eqb (lowest_of n 1 (λ k. not (eqb (f k) 0))) 0)
-    (λ z. eqb-true (f k) 0 (not-false (eqb (f k) 0) (none_lowest n 1 (λ k. not (eqb (f k) 0)) (lit< tt) (eqb-true _ 0 z) k a (omega arith))))
-    (λ z. let h = lowest_has n 1 (λ k. not (eqb (f k) 0)) (eqb-false _ 0 z) in
-    absurd (eqb-false _ 0 (not-true (eqb (f (lowest_of n 1 (λ k. not (eqb (f k) 0)))) 0) h) (rw z at e)))
+    elim (cases_Bool (eqb (lowest_of n 1 (λ k. not (eqb (f k) 0))) 0)) [
+      | inl z ↦ eqb-true (f k) 0 (not-false (eqb (f k) 0) (none_lowest n 1 (λ k. not (eqb (f k) 0)) (lit< tt) (eqb-true _ 0 z) k a (omega arith)))
+      | inr z ↦
+          let h = lowest_has n 1 (λ k. not (eqb (f k) 0)) (eqb-false _ 0 z) in
+          absurd (eqb-false _ 0 (not-true (eqb (f (lowest_of n 1 (λ k. not (eqb (f k) 0)))) 0) h) (rw z at e))
+    ]
 
 -- ---- Lists
 
-module _ {A : Type 0} (P : A → Type 0) (d : A) (last : P d) where
-  all_replicate : (k : ℕ) (a : A) → P a → (n : ℕ) → P (get_or (replicate k a) n d)
-  all_replicate zero a h n = last
-  all_replicate (suc k) a h zero = h
-  all_replicate (suc k) a h (suc n) = all_replicate k a h n
-
-  all_table : (k i : ℕ) (f : ℕ → A) → ((j : ℕ) → i ≤ j → j < i + k → P (f j)) → (n : ℕ) → P (get_or (table k i f) n d)
+module _ {A : Type 0} (P : A → Type 0) where
+  all_table : (k i : ℕ) (f : ℕ → A) → ((j : ℕ) → i ≤ j → j < i + k → P (f j)) → All P (table k i f)
   unfolding table
-  all_table zero i f h n = last
-  all_table (suc k) i f h zero = h i (omega arith) (omega arith)
-  all_table (suc k) i f h (suc n) = all_table k (i + 1) f (λ j a b. h j (omega arith) (omega arith)) n
+  all_table zero i f h = All-nil P
+  all_table (suc k) i f h = All-cons P (f i) (table k (i + 1) f) (h i (omega arith) (omega arith)) (all_table k (i + 1) f (λ j a b. h j (omega arith) (omega arith)))
 
-  all_append : (l r : List A) → ((n : ℕ) → P (get_or l n d)) → ((n : ℕ) → P (get_or r n d)) → (n : ℕ) → P (get_or (l ++ r) n d)
-  all_append [] r h k n = k n
-  all_append (x ∷ l) r h k zero = h zero
-  all_append (x ∷ l) r h k (suc n) = all_append l r (λ j. h (suc j)) k n
-
-  all_set : (l : List A) (i : ℕ) (a : A) → P a → ((n : ℕ) → P (get_or l n d)) → (n : ℕ) → P (get_or (set l i a) n d)
-  all_set [] i a h k n = last
-  all_set (x ∷ l) zero a h k zero = h
-  all_set (x ∷ l) zero a h k (suc n) = k (suc n)
-  all_set (x ∷ l) (suc i) a h k zero = k zero
-  all_set (x ∷ l) (suc i) a h k (suc n) = all_set l i a h (λ j. k (suc j)) n
+  -- what holds of each element and of what is read past the end holds at every place
+  at_each : (l : List A) (d : A) → P d → All P l → (n : ℕ) → P (get_or l n d)
+  at_each l d last h n = elim (cases_lt n (length l)) [ inl i ↦ h n d i | inr i ↦ rw (get_or_past l n d i) last ]
 
 -- ---- A pair, a group, a limit program, a setup in range
 
@@ -160,8 +148,8 @@ pub record Within (p : Programming) : Type 0 where
 good_pair : (sf on off : ℕ) → pair_bad sf on off ≡ false → (on < sf) × (off < sf)
 unfolding pair_bad
 good_pair sf on off e =
-    let a = neither (leb sf on || leb sf off) (eqb on off && not (eqb on 0)) e in
-    let b = neither (leb sf on) (leb sf off) a.0 in
+    let a = or_parts (leb sf on || leb sf off) (eqb on off && not (eqb on 0)) e in
+    let b = or_parts (leb sf on) (leb sf off) a.0 in
     (leb-false sf on b.0, leb-false sf off b.1)
 
 no_group_lem : (sf : ℕ) → 0 < sf → GroupWithin sf no_group
@@ -170,7 +158,7 @@ no_group_lem sf s = record { on = s; off = s; offset = s; mode = lit≤ tt; unus
 no_limit_lem : (sf : ℕ) → 0 < sf → LimitWithin sf no_limit
 unfolding switch_of
 no_limit_lem sf s = record {
-  setpoints = all_replicate (λ (x : ℕ). x < sf) 0 s 16 0 s;
+  setpoints = at_each (λ (x : ℕ). x < sf) (replicate 16 0) 0 s (All-replicate (λ (x : ℕ). x < sf) 16 0 s);
   size = λ _. refl;
   kind = lit≤ tt;
   detector = lit≤ tt;
@@ -185,15 +173,16 @@ past_limits_lem sf s =
     record { setpoints = λ k. s; size = λ e. absurd (e refl); kind = lit≤ tt; detector = lit≤ tt; onadvance = lit≤ tt; offadvance = lit≤ tt; switch = tt }
 
 no_limits : (sf : ℕ) → 0 < sf → (n : ℕ) → LimitWithin sf (get_or (replicate 32 no_limit) n past_limits)
-no_limits sf s = all_replicate (LimitWithin sf) past_limits (past_limits_lem sf s) 32 no_limit (no_limit_lem sf s)
+no_limits sf s = at_each (LimitWithin sf) (replicate 32 no_limit) past_limits (past_limits_lem sf s) (All-replicate (LimitWithin sf) 32 no_limit (no_limit_lem sf s))
 
 no_programs_lem : (u : Setup) → SetupWithin u → Within (no_programs u)
 no_programs_lem u k =
     let s : 0 < scale_factor u = omega arith in
+    let none = no_group_lem (scale_factor u) s in
     record {
       setup = k;
-      groups = all_replicate (GroupWithin (scale_factor u)) no_group (no_group_lem (scale_factor u) s) 6 no_group (no_group_lem (scale_factor u) s);
-      owners = all_replicate (λ (x : ℕ). x ≤ 6) 0 (lit≤ tt) 32 0 (lit≤ tt);
+      groups = at_each (GroupWithin (scale_factor u)) (replicate 6 no_group) no_group none (All-replicate (GroupWithin (scale_factor u)) 6 no_group none);
+      owners = at_each (λ (x : ℕ). x ≤ 6) (replicate 32 0) 0 (lit≤ tt) (All-replicate (λ (x : ℕ). x ≤ 6) 32 0 (lit≤ tt));
       limits = no_limits (scale_factor u) s;
     }
 
@@ -222,10 +211,10 @@ setup_words_lem file e =
     let b = no_bits low2 (low3 ∷ md1 ∷ md2 ∷ scalars ∷ []) a.1 in
     let c = no_bits low3 (md1 ∷ md2 ∷ scalars ∷ []) b.1 in
     let d = no_bits md2 (scalars ∷ []) (no_bits md1 (md2 ∷ scalars ∷ []) c.1).1 in
-    let f = neither (ltb (word file 1) 2) (ltb 1024 (word file 1)) a.0 in
-    let h = neither (ltb 1100 (word file 8) || eqb (word file 9) 0 || ltb 63 (word file 9)) (ltb 3 (word file 10)) (no_bits scalars [] d.1).0 in
-    let i = neither (ltb 1100 (word file 8) || eqb (word file 9) 0) (ltb 63 (word file 9)) h.0 in
-    let j = neither (ltb 1100 (word file 8)) (eqb (word file 9) 0) i.0 in
+    let f = or_parts (ltb (word file 1) 2) (ltb 1024 (word file 1)) a.0 in
+    let h = or_parts (ltb 1100 (word file 8) || eqb (word file 9) 0 || ltb 63 (word file 9)) (ltb 3 (word file 10)) (no_bits scalars [] d.1).0 in
+    let i = or_parts (ltb 1100 (word file 8) || eqb (word file 9) 0) (ltb 63 (word file 9)) h.0 in
+    let j = or_parts (ltb 1100 (word file 8)) (eqb (word file 9) 0) i.0 in
     record {
       least = ltb-false (word file 1) 2 f.0;
       most = ltb-false 1024 (word file 1) f.1;
@@ -251,18 +240,15 @@ setup_range file raw e =
       least = omega arith;
       most = omega arith;
       preset = omega arith;
-      offset = go s o (bit (word file 0) preset_bit);
+      offset =
+          elim (cases_Bool (bit (word file 0) preset_bit)) [
+            | inl q ↦ rw (q, s) (rw s at (modulo_below (sub_ℕ (word file 2) (scaled_position (word file 1) (turned (bit (word file 0) direction_bit) raw))) (word file 1 - 1)))
+            | inr q ↦ rw (q, s) o
+          ];
       multiplier = w.multiplier;
       divider = omega arith;
       code = w.code;
     }
-  where
-    go : word file 1 - 1 + 1 ≡ word file 1 → word file 3 < word file 1 → (q : Bool)
-        → cond q (preset_offset (word file 1) (bit (word file 0) direction_bit) (word file 2) raw) (word file 3) < word file 1 - 1 + 1
-    go s o true =
-        rw s
-        (rw s at (modulo_below (sub_ℕ (word file 2) (scaled_position (word file 1) (turned (bit (word file 0) direction_bit) raw))) (word file 1 - 1)))
-    go s o false = rw s o
 
 -- "1 SF 2 to 1024, .. 9 divisor 1 to 63": both are stored less 1, and read back as the file has them
 pub stored_less_1 : (file : List ℕ) (raw : ℕ) → eqb (setup_errors file) 0 ≡ true
@@ -296,21 +282,23 @@ program_mode model file n e =
     let mode : Bool = ltb 5 (control_mode w) in
     let other : Bool = other_bit group_control_bits w in
     let lacks : Bool = lacks_first_cycle model w in
-    let a = neither (quantity || mode || other || lacks) (ltb (io_count model t) (dealt_up_to file t n)) e in
-    let b = neither (quantity || mode || other) lacks a.0 in
-    let c = neither (quantity || mode) other b.0 in
-    ltb-false 5 (control_mode w) (neither quantity mode c.0).1
+    let a = or_parts (quantity || mode || other || lacks) (ltb (io_count model t) (dealt_up_to file t n)) e in
+    let b = or_parts (quantity || mode || other) lacks a.0 in
+    let c = or_parts (quantity || mode) other b.0 in
+    ltb-false 5 (control_mode w) (or_parts quantity mode c.0).1
 
 block_group : (model : Model) (sf : ℕ) (file : List ℕ) (n : ℕ) → 0 < sf → group_bits model sf file n ≡ 0 → GroupWithin sf (group_of file n)
 unfolding group_bits group_of
 block_group model sf file n s e =
-    by (bit (group_word file n 0) used_bit)
-    (λ t. let pair : Bool = pair_bad sf (group_word file n 1) (group_word file n 2) in
-    let a = no_bits (leb sf (group_word file n 3)) (group_program_bad model file n ∷ pair ∷ []) (rw t at e) in
-    let b = no_bits (group_program_bad model file n) (pair ∷ []) a.1 in
-    let d = good_pair sf (group_word file n 1) (group_word file n 2) (no_bits pair [] b.1).0 in
-    rw t (record { on = d.0; off = d.1; offset = leb-false sf (group_word file n 3) a.0; mode = program_mode model file n b.0; unused = λ f. absurd (true≢false f) }))
-    (λ t. rw t (no_group_lem sf s))
+    elim (cases_Bool (bit (group_word file n 0) used_bit)) [
+      | inl t ↦
+          let pair : Bool = pair_bad sf (group_word file n 1) (group_word file n 2) in
+          let a = no_bits (leb sf (group_word file n 3)) (group_program_bad model file n ∷ pair ∷ []) (rw t at e) in
+          let b = no_bits (group_program_bad model file n) (pair ∷ []) a.1 in
+          let d = good_pair sf (group_word file n 1) (group_word file n 2) (no_bits pair [] b.1).0 in
+          rw t (record { on = d.0; off = d.1; offset = leb-false sf (group_word file n 3) a.0; mode = program_mode model file n b.0; unused = λ f. absurd (true≢false f) })
+      | inr t ↦ rw t (no_group_lem sf s)
+    ]
 
 -- an output is dealt to no group, or to one of those that are there
 dealt_below : (t : IoType) (gs : List Group) (n i : ℕ) → 0 < n → dealt_to t gs n i < n + length gs
@@ -318,15 +306,16 @@ unfolding dealt_to
 dealt_below t [] n i s = omega arith
 dealt_below t (x ∷ gs) n i s =
     let f = dealt_below t gs (n + 1) in
-    by (x.used && same_type t (group_type x))
-    (λ u. by (ltb i x.quantity) (λ q. rw (u, q) (omega arith)) (λ q. rw (u, q) (omega (arith, f (i - x.quantity) (omega arith)))))
-    (λ u. rw u (omega (arith, f i (omega arith))))
+    elim (cases_Bool (x.used && same_type t (group_type x))) [
+      | inl u ↦ elim (cases_Bool (ltb i x.quantity)) [ inl q ↦ rw (u, q) (omega arith) | inr q ↦ rw (u, q) (omega (arith, f (i - x.quantity) (omega arith))) ]
+      | inr u ↦ rw u (omega (arith, f i (omega arith)))
+    ]
 
 dealt_six : (file : List ℕ) (n : ℕ) → get_or (owners_of (table 6 1 (group_of file))) n 0 ≤ 6
 unfolding owners_of
 dealt_six file =
-    all_append (λ (x : ℕ). x ≤ 6) 0 (lit≤ tt) (table 16 0 (dealt_to Real (table 6 1 (group_of file)) 1)) (table 16 0 (dealt_to Virtual (table 6 1 (group_of file)) 1))
-    (all_table (λ (x : ℕ). x ≤ 6) 0 (lit≤ tt) 16 0 _ (λ j _ _. below Real j)) (all_table (λ (x : ℕ). x ≤ 6) 0 (lit≤ tt) 16 0 _ (λ j _ _. below Virtual j))
+    at_each (λ (x : ℕ). x ≤ 6) (owners_of (table 6 1 (group_of file))) 0 (lit≤ tt)
+    (All-append (λ (x : ℕ). x ≤ 6) _ _ (all_table (λ (x : ℕ). x ≤ 6) 16 0 _ (λ j _ _. below Real j)) (all_table (λ (x : ℕ). x ≤ 6) 16 0 _ (λ j _ _. below Virtual j)))
   where
     below : (t : IoType) (i : ℕ) → dealt_to t (table 6 1 (group_of file)) 1 i ≤ 6
     below t i = omega (arith, dealt_below t (table 6 1 (group_of file)) 1 i (lit< tt), length_table 6 1 (group_of file))
@@ -340,7 +329,7 @@ keep_group model p file e k =
     let z = none_failing 6 (group_bits model sf file) (group_reserved file) (eqb-true _ 0 e) in
     record {
       setup = k.setup;
-      groups = all_table (GroupWithin sf) no_group (no_group_lem sf s) 6 1 (group_of file) (λ j a b. block_group model sf file j s (z j a (omega arith)));
+      groups = at_each (GroupWithin sf) _ no_group (no_group_lem sf s) (all_table (GroupWithin sf) 6 1 (group_of file) (λ j a b. block_group model sf file j s (z j a (omega arith))));
       owners = dealt_six file;
       limits = no_limits sf s;
     }
@@ -351,9 +340,10 @@ unfolding setpoint_bad block_pair_bad
 block_pair sf b k e t l =
     let j : ℕ = k / 2 in
     let h = good_pair sf (word b (2 * j + 3)) (word b (2 * j + 4)) (none_of_some 8 0 (block_pair_bad sf b) (rw t at e) j (omega arith) (omega arith)) in
-    by (eqb (k % 2) 0)
-    (λ d. let r = eqb-true (k % 2) 0 d in let i : k + 3 ≡ 2 * j + 3 = omega arith in rw i h.0)
-    (λ d. let r = eqb-false (k % 2) 0 d in let i : k + 3 ≡ 2 * j + 4 = omega (arith, r) in rw i h.1)
+    elim (cases_eq (k % 2) 0) [
+      | inl r ↦ let i : k + 3 ≡ 2 * j + 3 = omega arith in rw i h.0
+      | inr r ↦ let i : k + 3 ≡ 2 * j + 4 = omega (arith, r) in rw i h.1
+    ]
 
 first_pair : (sf : ℕ) (b : List ℕ) (k : ℕ) → setpoint_bad sf b ≡ false → eqb (block_type b) 0 ≡ false → k < 2 → word b (k + 3) < sf
 unfolding setpoint_bad block_pair_bad
@@ -363,9 +353,10 @@ first_pair sf b (suc (suc k)) e t l = absurd (omega arith)
 
 block_setpoint : (sf : ℕ) (b : List ℕ) (k : ℕ) → 0 < sf → setpoint_bad sf b ≡ false → k < 16 → setpoint_of b k < sf
 block_setpoint sf b k s e l =
-    by (eqb (block_type b) 0)
-    (λ t. rw t (block_pair sf b k e t l))
-    (λ t. by (ltb k 2) (λ i. rw (t, i) (first_pair sf b k e t (ltb-true k 2 i))) (λ i. rw (t, i) s))
+    elim (cases_Bool (eqb (block_type b) 0)) [
+      | inl t ↦ rw t (block_pair sf b k e t l)
+      | inr t ↦ elim (cases_Bool (ltb k 2)) [ inl i ↦ rw (t, i) (first_pair sf b k e t (ltb-true k 2 i)) | inr i ↦ rw (t, i) s ]
+    ]
 
 record BlockGood (sf : ℕ) (fifth : Bool) (b : List ℕ) : Type 0 where
   detector : control_detector (word b 0) ≡ 3 → ⊥
@@ -383,8 +374,8 @@ block_good sf fifth b e =
     let a = no_bits false (control_bad (word b 0) ∷ advances ∷ rest) e in
     let d = no_bits (control_bad (word b 0)) (advances ∷ rest) a.1 in
     let c = no_bits advances rest d.1 in
-    let f = neither (eqb (control_detector (word b 0)) 3) (eqb (control_type (word b 0)) 3) (neither _ _ d.0).0 in
-    let h = neither (advance_bad (word b 1)) (advance_bad (word b 2)) c.0 in
+    let f = or_parts (eqb (control_detector (word b 0)) 3) (eqb (control_type (word b 0)) 3) (or_parts _ _ d.0).0 in
+    let h = or_parts (advance_bad (word b 1)) (advance_bad (word b 2)) c.0 in
     let i = no_bits (setpoint_bad sf b) lengths (rw f.1 at c.1) in
     record {
       detector = eqb-false (control_detector (word b 0)) 3 f.0;
@@ -398,35 +389,43 @@ block_good sf fifth b e =
 good_pulse : (r q k : ℕ) → pulse_bad false r q k ≡ false → (1 ≤ q) × (1 ≤ k) × (q * k + q - 1 ≤ r)
 unfolding pulse_bad
 good_pulse r q k e =
-    let a = neither (eqb q 0 || eqb k 0) (ltb r (q * k + q - 1)) e in
-    let b = neither (eqb q 0) (eqb k 0) a.0 in
+    let a = or_parts (eqb q 0 || eqb k 0) (ltb r (q * k + q - 1)) e in
+    let b = or_parts (eqb q 0) (eqb k 0) a.0 in
     let c = eqb-false q 0 b.0 in
     let d = eqb-false k 0 b.1 in
     (omega (arith, c), omega (arith, d), ltb-false r (q * k + q - 1) a.1)
 
 good_time : (t : ℕ) → (eqb t 0 || ltb 9999 t) ≡ false → (1 ≤ t) × (t ≤ 9999)
 good_time t e =
-    let a = neither (eqb t 0) (ltb 9999 t) e in
+    let a = or_parts (eqb t 0) (ltb 9999 t) e in
     let c = eqb-false t 0 a.0 in
     (omega (arith, c), ltb-false 9999 t a.1)
 
 block_kind : (b : List ℕ) → (action_of b).kind ≤ 3
 unfolding action_of
 block_kind b =
-    by (eqb (block_type b) 0) (λ t. rw t (lit≤ tt))
-    (λ t. by (eqb (block_type b) 1) (λ u. rw (t, u) (lit≤ tt))
-    (λ u. by (eqb (block_type b) 2) (λ v. rw (t, u, v) (lit≤ tt)) (λ v. rw (t, u, v) (lit≤ tt))))
+    elim (cases_Bool (eqb (block_type b) 0)) [
+      | inl t ↦ rw t (lit≤ tt)
+      | inr t ↦ elim (cases_Bool (eqb (block_type b) 1)) [
+        | inl u ↦ rw (t, u) (lit≤ tt)
+        | inr u ↦ elim (cases_Bool (eqb (block_type b) 2)) [ inl v ↦ rw (t, u, v) (lit≤ tt) | inr v ↦ rw (t, u, v) (lit≤ tt) ]
+      ]
+    ]
 
 block_switch : (sf : ℕ) (fifth : Bool) (b : List ℕ) → length_bad sf fifth false b ≡ false
     → SwitchWithin sf (switch_of (action_of b)) (setpoint_of b 0) (setpoint_of b 1)
 unfolding length_bad action_of switch_of
 block_switch sf fifth b e =
-    by (eqb (block_type b) 0) (λ t. rw t tt)
-    (λ t. by (eqb (block_type b) 1)
-    (λ u. rw (t, u) (λ used. good_pulse (block_length sf b) (word b 5) (word b 6) (rw (u, used) at e)))
-    (λ u. by (eqb (block_type b) 2)
-    (λ v. rw (t, u, v) (λ used. good_time (word b 5) (rw used at (neither fifth _ (rw (u, v) at e)).1)))
-    (λ v. rw (t, u, v) tt)))
+    elim (cases_Bool (eqb (block_type b) 0)) [
+      | inl t ↦ rw t tt
+      | inr t ↦ elim (cases_Bool (eqb (block_type b) 1)) [
+        | inl u ↦ rw (t, u) (λ used. good_pulse (block_length sf b) (word b 5) (word b 6) (rw (u, used) at e))
+        | inr u ↦ elim (cases_Bool (eqb (block_type b) 2)) [
+          | inl v ↦ rw (t, u, v) (λ used. good_time (word b 5) (rw used at (or_parts fifth _ (rw (u, v) at e)).1))
+          | inr v ↦ rw (t, u, v) tt
+        ]
+      ]
+    ]
 
 block_limit : (model : Model) (p : Programming) (file : List ℕ) (n : ℕ) → 0 < scale_factor p.setup → limit_bits model p file n ≡ 0
     → LimitWithin (scale_factor p.setup) (limit_from model file n)
@@ -434,20 +433,23 @@ unfolding limit_bits limit_from limit_of_block advance_bad table
 block_limit model p file n s e =
     let sf : ℕ = scale_factor p.setup in
     let b : List ℕ = limit_block file n in
-    by (unread model file n)
-    (λ t. rw t (no_limit_lem sf s))
-    (λ t. by (unassigned p n)
-    (λ o. let z : 1 ≡ 0 = rw (t, o) at e in absurd (omega arith))
-    (λ o. let g = block_good sf (fifth_timed file n) b (rw (t, o) at e) in
-    rw t (record {
-      setpoints = all_table (λ (x : ℕ). x < sf) 0 s 16 0 (setpoint_of b) (λ j _ i. block_setpoint sf b j s g.setpoints (omega arith));
-      size = λ _. length_table 16 0 (setpoint_of b);
-      kind = block_kind b;
-      detector = let d = g.detector in omega (arith, d);
-      onadvance = ltb-false 999 (nat_abs (signed_word (word b 1))) g.onadvance;
-      offadvance = ltb-false 999 (nat_abs (signed_word (word b 2))) g.offadvance;
-      switch = block_switch sf (fifth_timed file n) b g.length;
-    })))
+    elim (cases_Bool (unread model file n)) [
+      | inl t ↦ rw t (no_limit_lem sf s)
+      | inr t ↦ elim (cases_Bool (unassigned p n)) [
+        | inl o ↦ let z : ◌≡◌ {A = ℕ} 1 0 = rw (t, o) at e in absurd (omega arith)
+        | inr o ↦
+            let g = block_good sf (fifth_timed file n) b (rw (t, o) at e) in
+            rw t (record {
+              setpoints = at_each (λ (x : ℕ). x < sf) (table 16 0 (setpoint_of b)) 0 s (all_table (λ (x : ℕ). x < sf) 16 0 (setpoint_of b) (λ j _ i. block_setpoint sf b j s g.setpoints (omega arith)));
+              size = λ _. length_table 16 0 (setpoint_of b);
+              kind = block_kind b;
+              detector = let d = g.detector in omega (arith, d);
+              onadvance = ltb-false 999 (nat_abs (signed_word (word b 1))) g.onadvance;
+              offadvance = ltb-false 999 (nat_abs (signed_word (word b 2))) g.offadvance;
+              switch = block_switch sf (fifth_timed file n) b g.length;
+            })
+      ]
+    ]
 
 keep_limit : (model : Model) (p : Programming) (file : List ℕ) → eqb (limit_errors model p file) 0 ≡ true → Within p
     → Within (with_limits p (table 32 1 (limit_from model file)))
@@ -460,7 +462,7 @@ keep_limit model p file e k =
       setup = k.setup;
       groups = k.groups;
       owners = k.owners;
-      limits = all_table (LimitWithin sf) past_limits (past_limits_lem sf s) 32 1 (limit_from model file) (λ j a b. block_limit model p file j s (z j a (omega arith)));
+      limits = at_each (LimitWithin sf) _ past_limits (past_limits_lem sf s) (all_table (LimitWithin sf) 32 1 (limit_from model file) (λ j a b. block_limit model p file j s (z j a (omega arith))));
     }
 
 -- ---- The nudge
@@ -486,11 +488,11 @@ nudged_pair sf l k w e =
     let unused : Bool = not (used_pair (on_setpoint l k) (off_setpoint l k)) in
     let leaves : Bool = bit w on_bit && leaves_range sf (bit w down_bit) (on_setpoint l k) in
     let leaves' : Bool = bit w off_bit && leaves_range sf (bit w down_bit) (off_setpoint l k) in
-    let a = neither (unused || leaves || leaves') (result_bad sf (limit_switch l) on off) e in
-    let b = neither (not (used_pair on off) || pair_bad sf on off) (nudge_fails sf (limit_switch l) on off) a.1 in
-    let c = good_pair sf on off (neither (not (used_pair on off)) (pair_bad sf on off) b.0).1 in
+    let a = or_parts (unused || leaves || leaves') (result_bad sf (limit_switch l) on off) e in
+    let b = or_parts (not (used_pair on off) || pair_bad sf on off) (nudge_fails sf (limit_switch l) on off) a.1 in
+    let c = good_pair sf on off (or_parts (not (used_pair on off)) (pair_bad sf on off) b.0).1 in
     record {
-      used = not-false (used_pair (on_setpoint l k) (off_setpoint l k)) (neither unused leaves (neither (unused || leaves) leaves' a.0).0).0;
+      used = not-false (used_pair (on_setpoint l k) (off_setpoint l k)) (or_parts unused leaves (or_parts (unused || leaves) leaves' a.0).0).0;
       on = c.0;
       off = c.1;
       passes = b.1;
@@ -523,7 +525,7 @@ module _ (sf : ℕ) (l : Limit) (w : ℕ) (k : LimitWithin sf l) (present : pair
           let first = not-false (eqb (nudge_pair w) 0) m in
           let z : nudge_pair w ≡ 0 = eqb-true (nudge_pair w) 0 first in
           first_nudged (SwitchWithin sf (Pulse q c)) (λ o. let d : ◌≡◌ {A = ℕ} 0 1 = cc in omega arith) first
-          (λ _. good_pulse (ahead sf (on_to l 0 w) (off_to l 0 w)) q c (neither _ _ (rw z at f)).0)
+          (λ _. good_pulse (ahead sf (on_to l 0 w) (off_to l 0 w)) q c (or_parts _ _ (rw z at f)).0)
       go (Timed t) e m f b =
           let first = not-false (eqb (nudge_pair w) 0) m in
           let z : nudge_pair w ≡ 0 = eqb-true (nudge_pair w) 0 first in
@@ -533,9 +535,11 @@ module _ (sf : ℕ) (l : Limit) (w : ℕ) (k : LimitWithin sf l) (present : pair
   unfolding nudged_limit
   nudged_within s =
       let j : ℕ = nudge_pair w in
+      let P : ℕ → Type 0 = λ x. x < sf in
       record {
-        setpoints = all_set (λ (x : ℕ). x < sf) 0 s (set l.setpoints (2 * j) (on_to l j w)) (2 * j + 1) (off_to l j w) h.off
-            (all_set (λ (x : ℕ). x < sf) 0 s l.setpoints (2 * j) (on_to l j w) h.on k.setpoints);
+        setpoints = at_each P _ 0 s
+            (All-set P (set l.setpoints (2 * j) (on_to l j w)) (2 * j + 1) (off_to l j w) h.off
+            (All-set P l.setpoints (2 * j) (on_to l j w) h.on (All-from_get_or P l.setpoints 0 (λ n _. k.setpoints n))));
         size = λ e. length-set (set l.setpoints (2 * j) (on_to l j w)) (2 * j + 1) (off_to l j w) ∙ length-set l.setpoints (2 * j) (on_to l j w) ∙ k.size e;
         kind = k.kind;
         detector = k.detector;
@@ -552,19 +556,20 @@ keep_nudge p w e k =
     let sf : ℕ = scale_factor p.setup in
     let s : 0 < sf = omega arith in
     let l : Limit = limit_of p (nudge_output w) in
-    let a = both (not (nudge_output_bad p w)) (not (nudge_setpoint_bad sf l (nudge_pair w) w)) e in
+    let a = and_parts (not (nudge_output_bad p w)) (not (nudge_setpoint_bad sf l (nudge_pair w) w)) e in
     let h = nudged_pair sf l (nudge_pair w) w (not-true (nudge_setpoint_bad sf l (nudge_pair w) w) a.1) in
     let missing : Bool = pair_missing (limit_switch l) (nudge_pair w) in
     let none : Bool = not (bit w on_bit || bit w off_bit) in
-    let b = neither (missing || none || bit w 11 || bit w 12) (bit w 13) (not-true (nudge_output_bad p w) a.0) in
-    let c = neither (missing || none || bit w 11) (bit w 12) b.0 in
-    let d = neither (missing || none) (bit w 11) c.0 in
+    let b = or_parts (missing || none || bit w 11 || bit w 12) (bit w 13) (not-true (nudge_output_bad p w) a.0) in
+    let c = or_parts (missing || none || bit w 11) (bit w 12) b.0 in
+    let d = or_parts (missing || none) (bit w 11) c.0 in
     record {
       setup = k.setup;
       groups = k.groups;
       owners = k.owners;
-      limits = all_set (LimitWithin sf) past_limits (past_limits_lem sf s) p.limits (nudge_output w) (nudged_limit l w)
-          (nudged_within sf l w (k.limits (nudge_output w)) (neither missing none d.0).0 h s) k.limits;
+      limits = at_each (LimitWithin sf) _ past_limits (past_limits_lem sf s)
+          (All-set (LimitWithin sf) p.limits (nudge_output w) (nudged_limit l w) (nudged_within sf l w (k.limits (nudge_output w)) (or_parts missing none d.0).0 h s)
+          (All-from_get_or (LimitWithin sf) p.limits past_limits (λ n _. k.limits n)));
     }
 
 keep_file : (kind : FileCycle) (g : Configuration) (file : List ℕ) → eqb (file_errors kind g file) 0 ≡ true → Within g.programming → Within (brought kind g file)

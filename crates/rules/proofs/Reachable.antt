@@ -2,6 +2,7 @@
 -- position's product are within 02's bounds, setpoints, offsets, presets and shifts are below SF, and what the checks bound is within its bounds. So what Card
 -- says of other modules (a sum modulo 2^32) no card meets. Assumes nothing.
 use Prim.Native.Nat.{ℕ, ◌+◌, ◌-◌, ◌*◌, ◌^◌, ◌≤◌, ◌<◌}
+use mathlib.Core.Logic.{inl, inr}
 use mathlib.Core.Path.{◌≡◌}
 use mathlib.Core.Bool.{Bool, true, false, cond}
 use mathlib.Core.List.{List, [], ◌∷◌}
@@ -11,6 +12,8 @@ use lib.Dec.{ltb, lit<, lit≤}
 use lib.Pow.{pow_pos}
 use lib.IntN.{ℤ}
 use borrow.Author.Tests.{ltb-false, lt-ltb, le-ltb}
+use Rattle.std.proofs.lemmas.Bool.{cases_Bool}
+use Rattle.std.proofs.lemmas.Nat.{mod_below}
 use Rattle.rules.specs.declared.Model.{Model}
 use Rattle.rules.specs.declared.Switch.{Switch}
 use Rattle.rules.specs.declared.Switch.TheVariants.{Pulse, Timed}
@@ -35,9 +38,7 @@ use Rattle.rules.specs.Run.{run}
 use Rattle.rules.specs.Sums.{least_big_c, most_big_c, least_c, most_c, most_product}
 use Rattle.rules.specs.History.{configuration_of, setup_in_force, conditions_in, outputs_in, last_position, expected_answer, since_module_start, since_group_start, since_limit_start, last_taken, past_of, movements, held_at}
 use Rattle.rules.specs.BusHistory.{last_shown}
-use Rattle.rules.proofs.Laws.{mod_below}
 use Rattle.rules.proofs.Packing.{packed_lt, packed_below}
-use Rattle.rules.proofs.Past.{by}
 use Rattle.rules.proofs.GroupPast.{shift_below}
 use Rattle.rules.proofs.Timed.{passed_of}
 use Rattle.rules.proofs.Windows.{steps_below, sum_fits, biased_below, long_some, long_small}
@@ -121,25 +122,25 @@ below_1024 : (model : Model) (l : List Call) (raw : ℕ) → (machine_position (
 unfolding machine_position
 below_1024 model l raw =
     let u : Setup = setup_in_force model l in
-    let a = mod_below (scaled_position (scale_factor u) (turned u.reversed raw) + u.offset) u.top in
+    let a = mod_below (scaled_position (scale_factor u) (turned u.reversed raw) + u.offset) (u.top + 1) (omega arith) in
     let b = (ranges model l).setup.most in
     omega arith
 
 last_below : (model : Model) (l : List Call) → (last_position model l).0 < 1024
 unfolding last_position machine_at
 last_below model [] = lit< tt
-last_below model (Step s ∷ l) = by (sound (configuration_of model l) s) (λ q. rw q (below_1024 model l s.raw)) (λ q. rw q (last_below model l))
+last_below model (Step s ∷ l) = elim (cases_Bool (sound (configuration_of model l) s)) [ inl q ↦ rw q (below_1024 model l s.raw) | inr q ↦ rw q (last_below model l) ]
 last_below model (FileCall kind file ∷ l) = last_below model l
 last_below model (NudgeCall w ∷ l) = last_below model l
 last_below model (ByteCall a ∷ l) = last_below model l
 
 answer_below : (model : Model) (l : List Call) (s : Sample) → (expected_answer model l s).position.0 < 1024
 unfolding expected_answer answer_of conditions_in conditions fault_conditions machine_at
-answer_below model l s = by (sound (configuration_of model l) s) (λ q. rw q (below_1024 model l s.raw)) (λ q. rw q (last_below model l))
+answer_below model l s = elim (cases_Bool (sound (configuration_of model l) s)) [ inl q ↦ rw q (below_1024 model l s.raw) | inr q ↦ rw q (last_below model l) ]
 
 tach_below : (k : Scalars) (rpm : ℕ) → tach_shown k rpm ≤ 32767
 unfolding tach_shown
-tach_below k rpm = by (ltb 32767 (tach_value k rpm)) (λ q. rw q (omega arith)) (λ q. let h = ltb-false 32767 (tach_value k rpm) q in rw q (omega arith))
+tach_below k rpm = elim (cases_Bool (ltb 32767 (tach_value k rpm))) [ inl q ↦ rw q (omega arith) | inr q ↦ let h = ltb-false 32767 (tach_value k rpm) q in rw q (omega arith) ]
 
 real_below : (model : Model) (s : Sample) (rule : ℕ → Bool) → word_of 0 (output_on model s rule) < 2 ^ real_count model
 unfolding output_on present

@@ -1,22 +1,23 @@
 -- How the history reads: for each quantifier the proposition that its test says, and 01's sentences on groups and timed switches as such propositions.
 -- `Moment j h`: j is the past h as it stood at one of its steps; of two moments the longer is the later. Assumes nothing.
 use Prim.Native.Nat.{ℕ, ◌+◌, ◌%◌, ◌≤◌, ◌<◌}
-use mathlib.Core.Path.{◌≡◌, refl, subst, ◌∙◌}
-use mathlib.Core.Logic.{◌↔◌}
-use mathlib.Core.Bool.{Bool, true, false, cond, not, ◌&&◌, ◌||◌, and-false, false≢true}
+use mathlib.Core.Path.{◌≡◌, refl, sym, subst, ◌∙◌}
+use mathlib.Core.Logic.{◌↔◌, inl, inr}
+use mathlib.Core.Bool.{Bool, true, false, not, ◌&&◌, ◌||◌, and-false, false≢true}
 use mathlib.Core.List.{List, [], ◌∷◌}
 use mathlib.Core.Option.{none, some, some-injective, none-ne-some, some-ne-none}
 use native.Mathlib.Omega.{arith}
 use lib.ListN.{length}
+use Rattle.std.proofs.lemmas.Bool.{and_parts, and_from, cond-true, false_from_ne_true, cases_Bool}
 use Rattle.rules.specs.declared.Mode.TheVariants.{Mode2, Mode3, Mode4, Mode5}
 use Rattle.rules.specs.declared.Switch.TheVariants.{Timed}
 use Rattle.rules.specs.Variants.{group_mode}
 use Rattle.rules.specs.Counts.{ahead}
-use Rattle.rules.specs.Groups.{presets, dwell_holds, group_position, running}
+use Rattle.rules.specs.Groups.{presets, dwell_holds, group_position}
 use Rattle.rules.specs.Switches.{timed_steps}
 use Rattle.rules.specs.Quant.{exists, every, after_each, no_later, latest_saw, held_under}
 use Rattle.rules.specs.History.{GroupStep, PastStep, begins_at, takes_at, level_at, edge_at, first_edge_at, stop_at, running_at, last_taken, preset_position, position_from, position_at, dwell_at, begins, takes, past_of, latest_dwell_saw, qualifies_at, counts_at, open_at, held_at, lasts}
-use Rattle.rules.proofs.Past.{both, pair, by, clash, Moment, now, back, none_of, number, all_of, exists→, exists←, every→, every←, AfterEach, after_each→, after_each←, NoLater, no_later→, no_later←, later_step}
+use Rattle.rules.proofs.Past.{clash, Moment, now, back, none_of, number, all_of, exists→, exists←, every→, every←, AfterEach, after_each→, after_each←, NoLater, no_later→, no_later←, later_step}
 use Rattle.rules.proofs.Stretch.{LatestSaw, latest_saw→, latest_saw←}
 use Rattle.rules.proofs.Timed.{HeldUnder, held_under→, held_under←}
 use Rattle.rules.proofs.GroupPast.{no_stop}
@@ -68,8 +69,8 @@ pub mode5_reads : (h : List PastStep)
     → (open_at Mode5 h ≡ true) ↔ (LatestSaw begins_at dwell_at qualifies_at h × NoLater (λ j. qualifies_at j || counts_at j) stop_at h)
 unfolding open_at latest_dwell_saw
 mode5_reads h = (
-  λ t. let b = both _ _ t in (latest_saw→ begins_at dwell_at qualifies_at h b.0, no_later→ (λ j. qualifies_at j || counts_at j) stop_at h b.1),
-  λ e. pair (latest_saw← begins_at dwell_at qualifies_at h e.0) (no_later← (λ j. qualifies_at j || counts_at j) stop_at h e.1),
+  λ t. let b = and_parts _ _ t in (latest_saw→ begins_at dwell_at qualifies_at h b.0, no_later→ (λ j. qualifies_at j || counts_at j) stop_at h b.1),
+  λ e. and_from _ _ (latest_saw← begins_at dwell_at qualifies_at h e.0) (no_later← (λ j. qualifies_at j || counts_at j) stop_at h e.1),
 )
 
 -- an edge of this very step: no stop is later, so that only whether it counts is left
@@ -94,7 +95,7 @@ mode5_pressed h f = rw (pressed h f) (latest_saw_reads begins_at dwell_at h qual
 stop_plain : (h : List PastStep) → stop_at h ≡ true → qualifies_at h ≡ false
 unfolding stop_at qualifies_at running_at
 stop_plain [] z = absurd (false≢true z)
-stop_plain (s ∷ h) z = by (dwell_at (s ∷ h) && running s.event) (λ t. clash z (no_stop (dwell_at (s ∷ h)) s.event t)) (λ q. q)
+stop_plain (s ∷ h) z = false_from_ne_true _ (λ t. clash z (no_stop (dwell_at (s ∷ h)) s.event t))
 
 -- Mode 5 in the step of a stop without a First Cycle edge: closed
 pub mode5_stopped : (h : List PastStep) → stop_at h ≡ true → first_edge_at h ≡ false → open_at Mode5 h ≡ false
@@ -107,9 +108,7 @@ mode5_stopped (s ∷ h) z f =
 pub mode5_begun : (h : List PastStep) → stop_at h ≡ true → begins_at h ≡ true → open_at Mode5 h ≡ false
 mode5_begun [] z b = clash z (unfold stop_at in refl)
 mode5_begun (s ∷ h) z b =
-    by (open_at Mode5 (s ∷ h))
-    (λ t. let e = ((mode5_reads (s ∷ h)).0 t).0 in clash (seen e.1 e.2.1 e.4 e.5.0 e.5.2) (stop_plain (s ∷ h) z))
-    (λ q. q)
+    false_from_ne_true _ (λ t. let e = ((mode5_reads (s ∷ h)).0 t).0 in clash (seen e.1 e.2.1 e.4 e.5.0 e.5.2) (stop_plain (s ∷ h) z))
   where
     -- what a dwell saw that begins in the last step, it saw in that step
     seen : {c j : List PastStep} → Moment c (s ∷ h) → ((k : List PastStep) → Moment k (s ∷ h) → length c < length k → begins_at k ≡ false)
@@ -139,30 +138,23 @@ abbrev pub LastTaken : PastStep → List PastStep → Type 0
 LastTaken s h =
     (r : List PastStep) × Moment (s ∷ r) h × (s.takes ≡ true) × ((k : List PastStep) → Moment k h → length (s ∷ r) < length k → takes_at k ≡ false)
 
--- a choice by a test that is known
-this : {A : Type 0} (q : Bool) (a b r : A) → q ≡ true → cond q a b ≡ r → a ≡ r
-this true a b r t e = e
-this false a b r t e = clash t refl
-
-that : {A : Type 0} (q : Bool) (a b r : A) → q ≡ false → cond q a b ≡ r → b ≡ r
-that true a b r t e = clash refl t
-that false a b r t e = e
-
 pub last_taken_reads : (h : List PastStep) (s : PastStep) → last_taken h ≡ some s → LastTaken s h
 unfolding last_taken takes_at
 last_taken_reads [] s e = absurd (none-ne-some s e)
 last_taken_reads (x ∷ h) s e =
-    by x.takes
-    (λ t. subst (λ (y : PastStep). LastTaken y (x ∷ h)) (some-injective x s (this x.takes (some x) (last_taken h) (some s) t e))
-    (h, now, t, λ k r l. let j = number r in absurd (omega arith)))
-    (λ t. let f = last_taken_reads h s (that x.takes (some x) (last_taken h) (some s) t e) in (f.0, back f.1, f.2, all_of (λ _. t) f.3))
+    elim (cases_Bool x.takes) [
+      | inl t ↦ subst (λ (y : PastStep). LastTaken y (x ∷ h)) (some-injective x s (sym (cond-true x.takes (some x) (last_taken h) t) ∙ e))
+          (h, now, t, λ k r l. let j = number r in absurd (omega arith))
+      | inr t ↦ let f = last_taken_reads h s (rw t at e) in (f.0, back f.1, f.2, all_of (λ _. t) f.3)
+    ]
 
 pub none_taken_reads : (h : List PastStep) → last_taken h ≡ none → (k : List PastStep) → Moment k h → takes_at k ≡ false
 unfolding last_taken takes_at
 none_taken_reads (x ∷ h) e =
-    by x.takes
-    (λ t. absurd (some-ne-none x (this x.takes (some x) (last_taken h) none t e)))
-    (λ t. all_of t (none_taken_reads h (that x.takes (some x) (last_taken h) none t e)))
+    elim (cases_Bool x.takes) [
+      | inl t ↦ absurd (some-ne-none x (sym (cond-true x.takes (some x) (last_taken h) t) ∙ e))
+      | inr t ↦ all_of t (none_taken_reads h (rw t at e))
+    ]
 none_taken_reads [] e = λ k r. absurd (none_of r)
 
 -- and the other way: such a step is what `last_taken` finds, and with none it finds none

@@ -1,15 +1,16 @@
 -- Demand 1, the outcomes, over the definitions that the contracts cite, for every module, file and word: each call's causes of refusal in 01's order, with
 -- their numbers and places written out, and each number comes exactly where its cause holds and none before it does. Assumes nothing.
 use Prim.Native.Nat.{ℕ, ◌+◌, ◌-◌, ◌*◌, ◌/◌, ◌%◌, ◌<◌, ◌≤◌}
-use mathlib.Core.Bool.{Bool, true, false, cond, not, ◌&&◌, ◌||◌, true≢false, false≢true}
+use mathlib.Core.Bool.{Bool, true, false, cond, not, ◌&&◌, ◌||◌}
 use mathlib.Core.List.{List, [], ◌∷◌}
-use mathlib.Core.Logic.{◌↔◌}
+use mathlib.Core.Logic.{◌↔◌, inl, inr}
 use mathlib.Core.Path.{◌≡◌, refl, ◌∙◌}
 use native.Mathlib.Omega.{arith}
-use borrow.Author.Tests.{eqb-true, eqb-false, ltb-false, eq-eqb, ne_eqb, not-false}
+use borrow.Author.Tests.{eqb-true, eqb-false, ltb-false, eq-eqb, ne_eqb, not-true, not-false}
 use lib.ListN.{length, get_or, take, drop, length-take, length-drop}
 use lib.Seq.{get_or-take, get_or-drop}
 use lib.Dec.{eqb, ltb}
+use Rattle.std.proofs.lemmas.Bool.{or_parts, cases_Bool}
 use Rattle.rules.specs.declared.Model.TheVariants.{M8511, M8512, M8513}
 use Rattle.rules.specs.declared.Errors.{Errors}
 use Rattle.rules.specs.declared.Configuration.{Configuration}
@@ -36,7 +37,6 @@ use Rattle.rules.specs.Card.{fresh_module, powered_up, file_call, nudge_call, re
 use Rattle.rules.specs.Run.{accessed}
 use Rattle.rules.proofs.Cycles.{errors_underway}
 use Rattle.rules.proofs.Causes.{first_of, Exactly, exactly}
-use Rattle.rules.proofs.Past.{by}
 
 -- ---- Cycles that take a file
 
@@ -211,29 +211,19 @@ power_outcome m n = go (eqb n 8511) (eqb n 8512) (eqb n 8513)
     go false false true = refl
     go false false false = refl
 
-none_of_three : (a b c : Bool) → not (a || b || c) ≡ true → (a ≡ false) × (b ≡ false) × (c ≡ false)
-none_of_three true b c h = absurd (false≢true h)
-none_of_three false true c h = absurd (false≢true h)
-none_of_three false false true h = absurd (false≢true h)
-none_of_three false false false h = (refl, refl, refl)
-
 -- 3 exactly for a number other than "8511, 8512 or 8513"
 pub power_3 : (m : Module) (n : ℕ) → (outcome_number (powered_up m n).outcome ≡ 3) ↔ ((n ≡ 8511 → ⊥) × (n ≡ 8512 → ⊥) × (n ≡ 8513 → ⊥))
 power_3 m n = (
-  λ e. let h = none_of_three (eqb n 8511) (eqb n 8512) (eqb n 8513) ((exactly (power_causes n) _ refl (power_outcome m n)).0.0 e).1 in
-      (eqb-false n 8511 h.0, eqb-false n 8512 h.1, eqb-false n 8513 h.2),
+  λ e. let h = or_parts (eqb n 8511 || eqb n 8512) (eqb n 8513) (not-true _ ((exactly (power_causes n) _ refl (power_outcome m n)).0.0 e).1) in
+      let k = or_parts (eqb n 8511) (eqb n 8512) h.0 in
+      (eqb-false n 8511 k.0, eqb-false n 8512 k.1, eqb-false n 8513 h.1),
   λ h. power_outcome m n ∙ rw (ne_eqb n 8511 h.0, ne_eqb n 8512 h.1, ne_eqb n 8513 h.2),
 )
 
 -- "3: unknown module (gives no module) .. Nothing changes."
 pub power_refused : (m : Module) (n : ℕ) → outcome_number (powered_up m n).outcome ≡ 3 → (powered_up m n).card ≡ m
 unfolding powered_up
-power_refused m n = go (model_known n)
-  where
-    go : (k : Bool) → outcome_number (cond {A = CycleResult} k (record { card = fresh_module (model_of n); outcome = Accepted }) (record { card = m; outcome = Refused UnknownModule })).outcome ≡ 3
-        → (cond {A = CycleResult} k (record { card = fresh_module (model_of n); outcome = Accepted }) (record { card = m; outcome = Refused UnknownModule })).card ≡ m
-    go true e = absurd (omega arith)
-    go false e = refl
+power_refused m n e = elim (cases_Bool (model_known n)) [ inl k ↦ let z : ◌≡◌ {A = ℕ} 0 3 = rw k at e in absurd (omega arith) | inr k ↦ rw k ]
 
 -- "Power-up takes 8511, 8512 or 8513"
 pub power_accepted : (m : Module)
@@ -259,10 +249,6 @@ pub reader_exactly : (length0 length1 : ℕ) (group : Bool) (n : ℕ)
     → Exactly (reader_refusal length0 length1 group n) Unit (reader_causes length0 length1 group n)
 reader_exactly length0 length1 group n = exactly (reader_causes length0 length1 group n) _ refl (reader_outcome length0 length1 group n)
 
-neither_two : (a b : Bool) → (a || b) ≡ false → (a ≡ false) × (b ≡ false)
-neither_two true b h = absurd (true≢false h)
-neither_two false b h = (refl, h)
-
 -- "on 1, 2 and 4 the part is empty"
 pub reader_empty : (m0 m1 : List ℕ) (group : Bool) (n : ℕ) → (reader_refusal (length m0) (length m1) group n ≡ 0 → ⊥) → reader_part m0 m1 group n ≡ []
 unfolding reader_part
@@ -280,7 +266,7 @@ unfolding reader_part
 reader_group m0 m1 n e =
     let t = (reader_exactly (length m0) (length m1) true n).1.1.1.0 e in
     let a = eqb-true (length m0) 120 (not-false _ t.0.0.1) in
-    let b = ltb-false 6 n (neither_two (eqb n 0) (ltb 6 n) t.1).1 in
+    let b = ltb-false 6 n (or_parts (eqb n 0) (ltb 6 n) t.1).1 in
     rw (eq-eqb (reader_refusal (length m0) (length m1) true n) 0 e) (part_of 4 (18 + 4 * n) m0 (omega arith))
 
 -- "or the output's 19 of M1", block n "at word 19 × n − 17"
@@ -290,7 +276,7 @@ unfolding reader_part
 reader_output m0 m1 n e =
     let t = (reader_exactly (length m0) (length m1) false n).1.1.1.0 e in
     let a = eqb-true (length m1) 650 (not-false _ t.0.1) in
-    let p = neither_two (eqb n 0) (ltb 32 n) t.1 in
+    let p = or_parts (eqb n 0) (ltb 32 n) t.1 in
     let z = eqb-false n 0 p.0 in
     let b = ltb-false 32 n p.1 in
     rw (eq-eqb (reader_refusal (length m0) (length m1) false n) 0 e) (part_of 19 (19 * n - 17) m1 (omega arith))
@@ -309,8 +295,8 @@ access_number m (Write n v) = outcome_number (write_call m n v).outcome
 
 pub access_outcome : (m : Module) (a : Access) → access_number m a ≡ first_of (access_causes a)
 unfolding read_call byte_read write_call bus_write number_of
-access_outcome m (Read n) = by (ltb 17 n) (λ q. rw q) (λ q. rw q)
-access_outcome m (Write n v) = by (ltb 17 n) (λ q. rw q) (λ q. by (ltb n 16) (λ r. rw (q, r)) (λ r. rw (q, r)))
+access_outcome m (Read n) = elim (cases_Bool (ltb 17 n)) [ inl q ↦ rw q | inr q ↦ rw q ]
+access_outcome m (Write n v) = elim (cases_Bool (ltb 17 n)) [ inl q ↦ rw q | inr q ↦ elim (cases_Bool (ltb n 16)) [ inl r ↦ rw (q, r) | inr r ↦ rw (q, r) ] ]
 
 -- each number exactly where its cause holds and none before it does, 0 where none holds
 pub access_exactly : (m : Module) (a : Access) → Exactly (access_number m a) Unit (access_causes a)
@@ -321,8 +307,8 @@ access_exactly m (Write n v) = exactly (access_causes (Write n v)) _ refl (acces
 pub access_refused : (m : Module) (a : Access) → (access_number m a ≡ 0 → ⊥) → accessed m a ≡ m
 unfolding accessed write_call bus_write
 access_refused m (Read n) h = refl
-access_refused m (Write n v) h = by (ltb 17 n) (λ q. rw q) (λ q. by (ltb n 16) (λ r. rw (q, r)) (λ r. absurd (h (rw (q, r)))))
+access_refused m (Write n v) h = elim (cases_Bool (ltb 17 n)) [ inl q ↦ rw q | inr q ↦ elim (cases_Bool (ltb n 16)) [ inl r ↦ rw (q, r) | inr r ↦ absurd (h (rw (q, r))) ] ]
 
 pub read_refused : (m : Module) (n : ℕ) → (access_number m (Read n) ≡ 0 → ⊥) → byte_shown (read_call m n) ≡ 0
 unfolding read_call byte_read
-read_refused m n h = by (ltb 17 n) (λ q. rw q) (λ q. absurd (h (rw q)))
+read_refused m n h = elim (cases_Bool (ltb 17 n)) [ inl q ↦ rw q | inr q ↦ absurd (h (rw q)) ]

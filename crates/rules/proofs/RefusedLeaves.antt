@@ -1,13 +1,13 @@
 -- Demand 1, what a refused or Idle cycle leaves of the module, over the definitions that the contracts cite, for every module, file and word. Numbers, lengths
 -- and places are written out. Assumes nothing.
 use Prim.Native.Nat.{ℕ}
-use mathlib.Core.Bool.{Bool, true, false, cond, not, ◌&&◌, ◌||◌, true≢false}
+use mathlib.Core.Bool.{Bool, true, false, cond, not, ◌&&◌, ◌||◌}
 use mathlib.Core.List.{List}
 use mathlib.Core.Logic.{◌⊎◌, ⊎_elim}
-use mathlib.Core.Path.{◌≡◌, refl, ◌∙◌}
+use mathlib.Core.Path.{◌≡◌, refl, ap, ◌∙◌}
 use borrow.Author.Tests.{eq-eqb, ne_eqb, not-true, not-false}
 use lib.ListN.{length}
-use lib.Dec.{eqb}
+use Rattle.std.proofs.lemmas.Bool.{and_parts, and_from, or_parts}
 use Rattle.rules.specs.declared.Errors.{Errors}
 use Rattle.rules.specs.declared.Acknowledges.{Acknowledges}
 use Rattle.rules.specs.declared.Configuration.{Configuration}
@@ -23,7 +23,6 @@ use Rattle.rules.specs.Cycle.{number_of, outcome_number, acts, underway, cycle, 
 use Rattle.rules.specs.FileCycle.{file_length, length_refusal, command_at, data_refusal, barred, file_errors, failing, command, clears, file_acts, file_cycle, file_after}
 use Rattle.rules.specs.Nudge.{nudge_output_bad, nudge_acts, nudge_cycle}
 use Rattle.rules.specs.Card.{file_call, file_left, nudge_call}
-use Rattle.rules.proofs.Past.{both}
 use Rattle.rules.proofs.Cycles.{errors_underway, file_leaves, nudge_leaves}
 use Rattle.rules.proofs.FilesLeft.{length_of, command_of, Status, acted_status}
 use Rattle.rules.proofs.Refusals.{any_error, acts_on, file_tested, setup_outcome, group_outcome, limit_outcome, nudge_outcome, nudge_exactly}
@@ -95,33 +94,6 @@ left_module m acknowledges errors ignored fault = record { configuration = left_
 abbrev pub refused_module : Module → Cycle → Errors → Bool → Bool → Module
 refused_module m c errors ignored fault = left_module m (acknowledging c true m.configuration.acknowledges) errors ignored fault
 
--- what the tests were where a cycle was refused with 5, and with its data's number
-ignored_tests : (kind : FileCycle) (m : Module) (file : List ℕ) → outcome_number (file_call kind m file).outcome ≡ 5
-    → (eqb (length file) (file_length kind) ≡ true) × (acts (OfFile kind) (command kind file) m.configuration ≡ true) × (barred kind (acts_on kind m file) ≡ true)
-unfolding number_of
-ignored_tests kind m file e =
-    let t = (file_tested kind m file).1.1.0.0 e in
-    (not-false _ t.0.0.1, not-false _ t.0.1, t.1)
-
-data_tests : (kind : FileCycle) (m : Module) (file : List ℕ) → outcome_number (file_call kind m file).outcome ≡ data_number kind
-    → (eqb (length file) (file_length kind) ≡ true) × (acts (OfFile kind) (command kind file) m.configuration ≡ true) × (barred kind (acts_on kind m file) ≡ false)
-    × (eqb (file_errors kind m.configuration file) 0 ≡ false)
-data_tests kind m file e =
-    let t = (file_tested kind m file).1.1.1.0.0 (e ∙ data_is kind) in
-    (not-false _ t.0.0.0.1, not-false _ t.0.0.1, t.0.1, not-true _ t.1)
-
-ignored_cycle_lem : (kind : FileCycle) (m : Module) (file : List ℕ) → outcome_number (file_call kind m file).outcome ≡ 5
-    → file_cycle kind m.configuration file ≡ ignored_cycle (acts_on kind m file)
-unfolding file_cycle cycle file_acts judged
-ignored_cycle_lem kind m file e = let t = ignored_tests kind m file e in rw (t.0, t.1, t.2)
-
-data_cycle : (kind : FileCycle) (m : Module) (file : List ℕ) → outcome_number (file_call kind m file).outcome ≡ data_number kind
-    → file_cycle kind m.configuration file ≡ refused_cycle (data_refusal kind) (acts_on kind m file)
-unfolding file_cycle cycle file_acts judged
-data_cycle kind m file e =
-    let t = data_tests kind m file e in
-    rw (t.0, t.1, t.2, errors_underway kind (OfFile kind) (clears (command kind file)) m.configuration file, t.3)
-
 -- 5: "Sets MsgIgn, itself no error", and no error, after ClrErr dropped all errors and the fault; "the status word has bit 14 only"
 abbrev pub ignored_module : FileCycle → Module → List ℕ → Module
 ignored_module kind m file =
@@ -136,11 +108,13 @@ ignored_leaves LimitCycle m file e = rw e
 
 pub file_ignored : (kind : FileCycle) (m : Module) (file : List ℕ) → outcome_number (file_call kind m file).outcome ≡ 5
     → ((file_call kind m file).card ≡ ignored_module kind m file) × Status kind 0x4000 0 (file_left kind m file)
-unfolding ignored_cycle
+unfolding number_of file_cycle cycle file_acts judged ignored_cycle
 file_ignored kind m file e =
-    let t = ignored_tests kind m file e in
-    let c = ignored_cycle_lem kind m file e in
-    (ignored_leaves kind m file c, acted_status kind m file true t.0 t.1 (rw c))
+    let t = (file_tested kind m file).1.1.0.0 e in
+    let fits = not-false _ t.0.0.1 in
+    let acting = not-false _ t.0.1 in
+    let c : file_cycle kind m.configuration file ≡ ignored_cycle (acts_on kind m file) = rw (fits, acting, t.1) in
+    (ignored_leaves kind m file c, acted_status kind m file true fits acting (rw c))
 
 -- 6, 7, 8: "6 to 10 set their error", and no other stands, for "5 comes first"
 abbrev pub own_error : FileCycle → Errors
@@ -152,24 +126,17 @@ abbrev pub data_module : FileCycle → Module → List ℕ → Module
 data_module kind m file = refused_module m (OfFile kind) (own_error kind) false (not (bit (command_of kind file) 0) && m.configuration.fault)
 
 none_stands : (e : Errors) → any_error e ≡ false → e ≡ none
-none_stands e = go e.setup e.group e.limit e.number e.setpoint
-  where
-    go : (a b c d f : Bool) → (a || b || c || d || f) ≡ false → ◌≡◌ {A = Errors} (record { setup = a; group = b; limit = c; number = d; setpoint = f }) none
-    go true b c d f h = absurd (true≢false h)
-    go false true c d f h = absurd (true≢false h)
-    go false false true d f h = absurd (true≢false h)
-    go false false false true f h = absurd (true≢false h)
-    go false false false false true h = absurd (true≢false h)
-    go false false false false false h = refl
+none_stands e h =
+    let a = or_parts (e.setup || e.group || e.limit || e.number) e.setpoint h in
+    let b = or_parts (e.setup || e.group || e.limit) e.number a.0 in
+    let c = or_parts (e.setup || e.group) e.limit b.0 in
+    let d = or_parts e.setup e.group c.0 in
+    λ i. record { setup = d.0 i; group = d.1 i; limit = c.1 i; number = b.1 i; setpoint = a.1 i }
 
 barred_stands : (kind : FileCycle) (g : Configuration) → barred kind g ≡ false → g.errors ≡ none
 unfolding barred stands
 barred_stands SetupCycle g h = none_stands g.errors h
-barred_stands GroupCycle g h = none_stands g.errors (go (any_error g.errors) h)
-  where
-    go : (b : Bool) → (b || g.programming.setup.independent) ≡ false → b ≡ false
-    go true q = absurd (true≢false q)
-    go false q = refl
+barred_stands GroupCycle g h = none_stands g.errors (or_parts (any_error g.errors) g.programming.setup.independent h).0
 barred_stands LimitCycle g h = none_stands g.errors h
 
 data_leaves : (kind : FileCycle) (m : Module) (file : List ℕ) → file_cycle kind m.configuration file ≡ refused_cycle (data_refusal kind) (acts_on kind m file)
@@ -183,62 +150,53 @@ data_leaves LimitCycle m file e s = rw (e, s)
 pub file_data : (kind : FileCycle) (m : Module) (file : List ℕ) → outcome_number (file_call kind m file).outcome ≡ data_number kind
     → ((file_call kind m file).card ≡ data_module kind m file)
     × Status kind (file_errors kind m.configuration file) (failing kind m.configuration file) (file_left kind m file)
-unfolding refused_cycle underway
+unfolding file_cycle cycle file_acts judged refused_cycle underway
 file_data kind m file e =
-    let t = data_tests kind m file e in
-    let c = data_cycle kind m file e in
-    (data_leaves kind m file c (barred_stands kind (acts_on kind m file) t.2), acted_status kind m file false t.0 t.1 (rw c))
+    let t = (file_tested kind m file).1.1.1.0.0 (e ∙ data_is kind) in
+    let fits = not-false _ t.0.0.0.1 in
+    let acting = not-false _ t.0.0.1 in
+    let c : file_cycle kind m.configuration file ≡ refused_cycle (data_refusal kind) (acts_on kind m file) =
+    rw (fits, acting, t.0.1, errors_underway kind (OfFile kind) (clears (command kind file)) m.configuration file, not-true _ t.1) in
+    (data_leaves kind m file c (barred_stands kind (acts_on kind m file) t.0.1), acted_status kind m file false fits acting (rw c))
 
 -- where the nudge's 5, 9 or 10 comes, it acts and bit 14 is clear
-acting : (t a : Bool) → (not t || a) ≡ false → (t && not a) ≡ true
-acting true true h = absurd (true≢false h)
-acting true false h = refl
-acting false a h = absurd (true≢false h)
-
-other : (c b : Bool) → c ≡ false → (not c && b) ≡ false → b ≡ false
-other c b e h = rw e at h
-
 nudge_acts_lem : (m : Module) (w : ℕ) → (not (bit w 15) || m.configuration.acknowledges.nudge) ≡ false → acts NudgeCycle w m.configuration ≡ true
 unfolding acts
-nudge_acts_lem m w h = acting (bit w 15) m.configuration.acknowledges.nudge h
-
-nudge_stands : (m : Module) (b : Bool) → any_error m.configuration.errors ≡ b → stands m.configuration.errors ≡ b
-unfolding stands
-nudge_stands m b h = h
+nudge_acts_lem m w h = let p = or_parts (not (bit w 15)) m.configuration.acknowledges.nudge h in and_from _ _ (not-false _ p.0) (ap not p.1)
 
 -- the nudge's 5: "Sets MsgIgn, itself no error", and errors and fault are as before
 pub nudge_ignored : (m : Module) (w : ℕ) → outcome_number (nudge_call m w).outcome ≡ 5
     → (nudge_call m w).card ≡ refused_module m NudgeCycle m.configuration.errors true m.configuration.fault
-unfolding nudge_call nudge_cycle cycle nudge_acts underway ignored_cycle
+unfolding nudge_call nudge_cycle cycle nudge_acts stands underway ignored_cycle
 nudge_ignored m w e =
     let t = (nudge_exactly m w).1.0.0 e in
-    let p = both (not (bit w 14)) (any_error m.configuration.errors) t.1 in
-    rw (nudge_acts_lem m w t.0.1, not-true (bit w 14) p.0, nudge_stands m true p.1)
+    let p = and_parts (not (bit w 14)) (any_error m.configuration.errors) t.1 in
+    rw (nudge_acts_lem m w t.0.1, not-true (bit w 14) p.0, p.1)
 
 -- "9: nudged output unprogrammed, ..": I/DNum alone
 pub nudge_output_lem : (m : Module) (w : ℕ) → outcome_number (nudge_call m w).outcome ≡ 9
     → (nudge_call m w).card
     ≡ refused_module m NudgeCycle (record { setup = false; group = false; limit = false; number = true; setpoint = false }) false m.configuration.fault
-unfolding nudge_call nudge_cycle cycle nudge_acts underway refused_cycle
+unfolding nudge_call nudge_cycle cycle nudge_acts stands underway refused_cycle
 nudge_output_lem m w e =
     let t = (nudge_exactly m w).1.1.0.0 e in
-    let p = both (not (bit w 14)) (nudge_output_bad m.configuration.programming w) t.1 in
+    let p = and_parts (not (bit w 14)) (nudge_output_bad m.configuration.programming w) t.1 in
     let c = not-true (bit w 14) p.0 in
-    let s = other (bit w 14) (any_error m.configuration.errors) c t.0.1 in
-    rw (nudge_acts_lem m w t.0.0.1, c, nudge_stands m false s, p.1, none_stands m.configuration.errors s)
+    let s = rw c at t.0.1 in
+    rw (nudge_acts_lem m w t.0.0.1, c, s, p.1, none_stands m.configuration.errors s)
 
 -- "10, after 9: ..": I/DSet alone
 pub nudge_setpoint : (m : Module) (w : ℕ) → outcome_number (nudge_call m w).outcome ≡ 10
     → (nudge_call m w).card
     ≡ refused_module m NudgeCycle (record { setup = false; group = false; limit = false; number = false; setpoint = true }) false m.configuration.fault
-unfolding nudge_call nudge_cycle cycle nudge_acts underway refused_cycle
+unfolding nudge_call nudge_cycle cycle nudge_acts stands underway refused_cycle
 nudge_setpoint m w e =
     let t = (nudge_exactly m w).1.1.1.0.0 e in
-    let p = both (not (bit w 14)) _ t.1 in
+    let p = and_parts (not (bit w 14)) _ t.1 in
     let c = not-true (bit w 14) p.0 in
-    let s = other (bit w 14) (any_error m.configuration.errors) c t.0.0.1 in
-    let b = other (bit w 14) (nudge_output_bad m.configuration.programming w) c t.0.1 in
-    rw (nudge_acts_lem m w t.0.0.0.1, c, nudge_stands m false s, b, p.1, none_stands m.configuration.errors s)
+    let s = rw c at t.0.0.1 in
+    let b = rw c at t.0.1 in
+    rw (nudge_acts_lem m w t.0.0.0.1, c, s, b, p.1, none_stands m.configuration.errors s)
 
 -- ---- An error that stands: "5 comes first"
 

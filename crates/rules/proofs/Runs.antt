@@ -7,6 +7,7 @@ use mathlib.Core.List.{List, [], ◌∷◌, ◌++◌, map}
 use lib.ListN.{replicate, drop}
 use lib.Dec.{ltb, leb}
 use lib.IntN.{pos}
+use Rattle.std.proofs.lemmas.Bool.{and_parts}
 use Rattle.rules.specs.declared.Model.TheVariants.{M8513}
 use Rattle.rules.specs.declared.Mode.{Mode}
 use Rattle.rules.specs.declared.Mode.TheVariants.{Mode5}
@@ -20,7 +21,6 @@ use Rattle.rules.specs.Card.{powered_up, fresh_module}
 use Rattle.rules.specs.Run.{answers}
 use Rattle.rules.specs.History.{GroupStep, past_of, open_at, c_of, rpm_at, expected_answers}
 use Rattle.rules.proofs.Computes.{history, machine}
-use Rattle.rules.proofs.Past.{both}
 use Rattle.rules.proofs.Theorem.{every_answer}
 
 -- ---- Whole cards
@@ -157,7 +157,7 @@ same_answers : (x : Module) (rs : List CardRun) → known rs ≡ true
     ≡ map (λ (r : CardRun). map shown (expected_answers (model_of r.number) [] r.calls)) rs
 unfolding known
 same_answers x [] k = refl
-same_answers x (r ∷ rs) k = let b = both _ _ k in rw (every_answer x r.number b.0 r.calls, same_answers x rs b.1)
+same_answers x (r ∷ rs) k = let b = and_parts _ _ k in rw (every_answer x r.number b.0 r.calls, same_answers x rs b.1)
 
 -- so the card runs
 pub card_runs_lem : (x : Module) → map (λ (r : CardRun). map shown (answers (powered_up x r.number).card r.calls)) card_runs ≡ map (λ (r : CardRun). r.says) card_runs

@@ -1,16 +1,16 @@
 -- 01's sentences on groups, words 112 to 117, MsgIgn and the Preset bit, of the card itself: for every model, every list of calls from power-up and every
 -- step or cycle after it.
 -- `ahead` is how far one count is ahead of another modulo SF, so the travel from the one to the other. Assumes nothing.
-use Prim.Native.Nat.{ℕ, zero, suc, ◌+◌, ◌%◌, ◌≤◌, ◌<◌}
+use Prim.Native.Nat.{ℕ, suc, ◌+◌, ◌%◌, ◌≤◌, ◌<◌}
 use mathlib.Core.Path.{◌≡◌, refl, sym, ap, ◌∙◌}
 use mathlib.Core.Logic.{◌↔◌, ◌⊎◌, inl, inr}
 use mathlib.Core.Bool.{Bool, true, false, not, ◌&&◌, ◌||◌, or-false, and-false}
 use mathlib.Core.List.{List, [], ◌∷◌, map}
 use native.Mathlib.Omega.{arith}
-use lib.ListN.{length, get_or, set, length-append, length-set, length-map, get_or-append, get_or-map}
+use lib.ListN.{length, get_or, length-append, length-map, get_or-append, get_or-map}
 use lib.Dec.{ltb, eqb}
-use lib.Seq.{get_or-set_same}
 use borrow.Author.Tests.{ltb-false, eq-eqb, ne_eqb}
+use Rattle.std.proofs.lemmas.Bool.{cases_Bool}
 use Rattle.rules.specs.declared.GroupPosition.{GroupPosition}
 use Rattle.rules.specs.declared.Model.{Model}
 use Rattle.rules.specs.declared.Mode.{Mode}
@@ -23,7 +23,7 @@ use Rattle.rules.specs.declared.FileCycle.TheVariants.{SetupCycle, GroupCycle}
 use Rattle.rules.specs.declared.Cycle.TheVariants.{OfFile}
 use Rattle.rules.specs.declared.Outcome.{Outcome}
 use Rattle.rules.specs.declared.Outcome.TheVariants.{Idle, Accepted, Refused}
-use Rattle.rules.specs.Words.{word, bit, stored_at}
+use Rattle.rules.specs.Words.{word, bit}
 use Rattle.rules.specs.Variants.{mode_of, group_mode, group_type}
 use Rattle.rules.specs.Counts.{ahead}
 use Rattle.rules.specs.Motion.{scale_factor, machine_position, machine_at, divisor, conditions, level, group_input}
@@ -38,10 +38,10 @@ use Rattle.rules.specs.Card.{conditions_now, open_now, group_state_at, file_left
 use Rattle.rules.specs.Run.{module_after, run, output_bit}
 use Rattle.rules.specs.Quant.{no_later}
 use Rattle.rules.specs.History.{configuration_of, programming_of, setup_in_force, is_module_start, conditions_in, PastStep, begins_at, takes_at, edge_at, first_edge_at, stop_at, position_at, dwell_at, past_of, qualifies_at, counts_at, open_at, group_step_in, since_group_start, group_past, position_in, open_in, positions_in, openness_in, last_raw, left_positions, acted, ignored_after, message_ignored}
-use Rattle.rules.proofs.Laws.{stored_outside}
+use Rattle.rules.proofs.Laws.{stored_word}
 use Rattle.rules.proofs.Brought.{preset_shows}
 use Rattle.rules.proofs.Packing.{get_d_table_0, length_table}
-use Rattle.rules.proofs.Past.{by, Moment, NoLater, later_step}
+use Rattle.rules.proofs.Past.{Moment, NoLater, later_step}
 use Rattle.rules.proofs.Stretch.{LatestSaw}
 use Rattle.rules.proofs.Cycles.{file_leaves}
 use Rattle.rules.proofs.Programs.{with_setup_lem}
@@ -139,7 +139,7 @@ module _ (model : Model) (l : List Call) (s : Sample) (n : ℕ) (b : n < 6) wher
   preset_used : (m : Mode) → mode_in model l n ≡ m → (m ≡ Mode0 → ⊥) → (program model l n).used ≡ true
   unfolding mode_of
   preset_used m e other =
-      by (program model l n).used (λ u. u) (λ u. absurd (other (sym e ∙ ap mode_of (((ranges model l).groups n).unused u))))
+      elim (cases_Bool (program model l n).used) [ inl u ↦ u | inr u ↦ absurd (other (sym e ∙ ap mode_of (((ranges model l).groups n).unused u))) ]
 
   preset_mode : (mode_in model l n ≡ Mode1) ⊎ (mode_in model l n ≡ Mode2) → ((program model l n).used ≡ true) × (presets (mode_in model l n) ≡ true)
   unfolding presets
@@ -198,22 +198,11 @@ closed_dark model l s n g b c mode owner shut unforced =
 
 -- ---- Words 112 to 117
 
--- word k of those stored into a file is at their place + k
-stored_word : (at : ℕ) (ws file : List ℕ) (k : ℕ) → k < length ws → at + length ws ≤ length file → word (stored_at at ws file) (at + k) ≡ get_or ws k 0
-unfolding stored_at
-stored_word at [] file k h f = absurd (omega arith)
-stored_word at (w ∷ ws) file zero h f =
-    let e : at + 0 ≡ at = omega arith in
-    rw e (stored_outside (at + 1) ws (set file at w) at (λ p. omega arith) ∙ get_or-set_same file at w 0 (omega arith))
-stored_word at (w ∷ ws) file (suc k) h f =
-    let e : at + suc k ≡ at + 1 + k = omega arith in
-    rw e (stored_word (at + 1) ws (set file at w) k (omega arith) (omega (arith, length-set file at w)))
-
 left_six : (model : Model) (l : List Call) → length (left_positions model l) ≡ 6
 unfolding left_positions positions_in
 left_six model [] = refl
-left_six model (Step s ∷ l) = by (sound (configuration_of model l) s) (λ q. rw q (length_table 6 0 (position_in model l s))) (λ q. rw q)
-left_six model (FileCall kind file ∷ l) = by (is_module_start (configuration_of model l) (FileCall kind file)) (λ q. rw q) (λ q. rw q (left_six model l))
+left_six model (Step s ∷ l) = elim (cases_Bool (sound (configuration_of model l) s)) [ inl q ↦ rw q (length_table 6 0 (position_in model l s)) | inr q ↦ rw q ]
+left_six model (FileCall kind file ∷ l) = elim (cases_Bool (is_module_start (configuration_of model l) (FileCall kind file))) [ inl q ↦ rw q | inr q ↦ rw q (left_six model l) ]
 left_six model (NudgeCall w ∷ l) = left_six model l
 left_six model (ByteCall a ∷ l) = left_six model l
 
@@ -229,7 +218,7 @@ position_words model l file n size a b =
     let long : length told ≡ 6 = length-map (left_positions model l) (λ (p : GroupPosition). p.0) ∙ six in
     let i : 112 + n ≡ 110 + suc (suc n) = omega arith in
     rw (configuration_is model l, positions_are model l, eq-eqb (length file) 120 size, a, i)
-    (stored_word 110 _ file (suc (suc n)) (omega (arith, length-append told (0 ∷ 0 ∷ []))) (omega (arith, length-append told (0 ∷ 0 ∷ [])))
+    (stored_word 110 _ file (suc (suc n)) (omega (arith, length-append told (0 ∷ 0 ∷ []))) (omega arith)
     ∙ get_or-append told (0 ∷ 0 ∷ []) 0 n (omega arith)
     ∙ get_or-map (λ (p : GroupPosition). p.0) (left_positions model l) n no_position)
 
@@ -251,9 +240,10 @@ unfolding ignored_after acted
 ignored_step Idle before = refl
 ignored_step Accepted before = refl
 ignored_step (Refused why) before =
-    by (ltb 2 (number_of why))
-    (λ q. rw q (sym (or-false (eqb (number_of why) 5))))
-    (λ q. let m = ltb-false 2 (number_of why) q in rw (q, ne_eqb (number_of why) 5 (λ e. omega arith)))
+    elim (cases_Bool (ltb 2 (number_of why))) [
+      | inl q ↦ rw q (sym (or-false (eqb (number_of why) 5)))
+      | inr q ↦ let m = ltb-false 2 (number_of why) q in rw (q, ne_eqb (number_of why) 5 (λ e. omega arith))
+    ]
 
 no_later_lem : (model : Model) (l : List Call) → message_ignored model l ≡ no_later (cycle_at answered5 model) (cycle_at acted model) l
 unfolding message_ignored

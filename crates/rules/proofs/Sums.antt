@@ -1,16 +1,19 @@
 -- 02's "Smaller sums": over every list of calls the movement sums and the scaled position's product stay within their bounds, told of 01's signed sums, and
 -- the numbers that the card holds stand for these sums. Assumes nothing.
 use Prim.Native.Nat.{ℕ, zero, suc, ◌+◌, ◌-◌, ◌*◌, ◌%◌, ◌≤◌, ◌<◌}
+use mathlib.Core.Logic.{inl, inr}
 use mathlib.Core.Path.{◌≡◌, refl, sym, ◌∙◌}
-use mathlib.Core.Bool.{Bool, true, false, not}
+use mathlib.Core.Bool.{Bool, true, false}
 use mathlib.Core.List.{List, [], ◌∷◌}
 use native.Mathlib.Nat.{mod-lt, mul-le-mul}
 use native.Mathlib.Omega.{arith}
 use lib.ListN.{length, take, drop}
-use lib.Dec.{T, ltb, leb, lit<, lit≤, le→leb}
+use lib.Dec.{ltb, leb, lit<, lit≤, le→leb}
 use lib.IntN.{ℤ, pos, neg_ℤ, sub_ℕ, ◌-ℤ◌, +ℤ_idr, +ℤ_invr}
 use lib.Signed.{◌≤ℤ◌, lt_z, le_z_yes, lt_z_yes, lt_z_no, <ℤ-≤ℤ_trans, clash_ℤ}
 use borrow.Author.Tests.{ltb-true, ltb-false, leb-true}
+use Rattle.std.proofs.lemmas.Bool.{and_parts, false_from_ne_true, cases_Bool}
+use Rattle.std.proofs.lemmas.Float.{T_from_true, T_from_false}
 use Rattle.rules.specs.declared.Model.{Model}
 use Rattle.rules.specs.declared.Setup.{Setup}
 use Rattle.rules.specs.declared.Configuration.{Configuration}
@@ -24,7 +27,6 @@ use Rattle.rules.specs.Run.{run}
 use Rattle.rules.specs.Sums.{least_big_c, most_big_c, least_c, most_c, most_product}
 use Rattle.rules.specs.History.{configuration_of, setup_in_force, turned_in, since_module_start, up_to_step, movements, total, window_total, running_total, c_of, big_c_of, update_at, conditions_in, last_raw}
 use Rattle.rules.proofs.Laws.{minus, modulo_below, add_differences}
-use Rattle.rules.proofs.Past.{both, by}
 use Rattle.rules.proofs.Windows.{held_c, last_of, movement_is, biased_below, WindowLink, big_c_is, updates_is, long_some, long_small}
 use Rattle.rules.proofs.Ranges.{ranges}
 use Rattle.rules.proofs.Agreement.{agrees}
@@ -75,9 +77,10 @@ drop_movements (suc n) (q ∷ qs) = drop_movements n qs
 module _ (n size : ℕ) (some : 0 < n) (small : n ≤ size) (qs : List ℕ) where
   swing_full : Swing size (window_total n (movements qs))
   unfolding window_total
-  swing_full = by (ltb (length (movements qs)) n)
-      (λ t. rw t (wider 0 size (pos 0) (omega arith) (record { number = 0; is = refl; below = omega arith })))
-      (λ t. rw (t, drop_movements (length (movements qs) % n) qs) (wider n size _ small (swing_total n (drop (length (movements qs) % n) qs))))
+  swing_full = elim (cases_Bool (ltb (length (movements qs)) n)) [
+    | inl t ↦ rw t (wider 0 size (pos 0) (omega arith) (record { number = 0; is = refl; below = omega arith }))
+    | inr t ↦ rw (t, drop_movements (length (movements qs) % n) qs) (wider n size _ small (swing_total n (drop (length (movements qs) % n) qs)))
+  ]
 
   swing_running : Swing size (running_total n (movements qs))
   unfolding running_total
@@ -94,7 +97,7 @@ pub record Between (a b z : ℤ) : Type 0 where
 
 -- n − b, where n is at most b + m
 difference_between : (n b m : ℕ) → n ≤ b + m → Between (neg_ℤ (pos b)) (pos m) (sub_ℕ n b)
-difference_between n b m l = by (ltb n b) (below b) (λ t. rw t (above b (ltb-false n b t) l))
+difference_between n b m l = elim (cases_Bool (ltb n b)) [ inl t ↦ below b t | inr t ↦ rw t (above b (ltb-false n b t) l) ]
   where
     below : (b : ℕ) → ltb n b ≡ true → Between (neg_ℤ (pos b)) (pos m) (sub_ℕ n b)
     below zero t = let i = ltb-true n 0 t in absurd (omega arith)
@@ -108,11 +111,7 @@ difference_between n b m l = by (ltb n b) (below b) (λ t. rw t (above b (ltb-fa
 
 -- ≤ of three
 order : (a b c : ℤ) → a ≤ℤ b → b ≤ℤ c → a ≤ℤ c
-order a b c h k = lt_z_no (by_test (lt_z c a) (λ t. clash_ℤ (<ℤ-≤ℤ_trans (lt_z_yes t) h) k))
-  where
-    by_test : (q : Bool) → (T q → ⊥) → T (not q)
-    by_test true f = f tt
-    by_test false f = tt
+order a b c h k = lt_z_no (T_from_false (lt_z c a) (false_from_ne_true _ (λ t. clash_ℤ (<ℤ-≤ℤ_trans (lt_z_yes (T_from_true _ t)) h) k)))
 
 -- the bounds of so many movements, and wider ones
 swing_between : (size : ℕ) (a b z : ℤ) → a ≤ℤ neg_ℤ (pos (512 * size)) → pos (511 * size) ≤ℤ b → Swing size z → Between a b z
@@ -192,7 +191,7 @@ product_within model l raw b =
 
 sound_below : (g : Configuration) (s : Sample) → sound g s ≡ true → s.raw ≤ raw_most
 unfolding sound
-sound_below g s e = leb-true s.raw raw_most (both (leb s.raw raw_most) _ e).0
+sound_below g s e = leb-true s.raw raw_most (and_parts (leb s.raw raw_most) _ e).0
 
 -- so of every step that is not answered 11
 pub step_product : (model : Model) (l : List Call) (s : Sample) → sound (configuration_of model l) s ≡ true
@@ -205,7 +204,7 @@ pub last_raw_below : (model : Model) (l : List Call) → last_raw model l ≤ ra
 unfolding last_raw
 last_raw_below model [] = lit≤ tt
 last_raw_below model (Step s ∷ l) =
-    by (sound (configuration_of model l) s) (λ q. rw q (sound_below (configuration_of model l) s q)) (λ q. rw q (last_raw_below model l))
+    elim (cases_Bool (sound (configuration_of model l) s)) [ inl q ↦ rw q (sound_below (configuration_of model l) s q) | inr q ↦ rw q (last_raw_below model l) ]
 last_raw_below model (FileCall kind file ∷ l) = last_raw_below model l
 last_raw_below model (NudgeCall w ∷ l) = last_raw_below model l
 last_raw_below model (ByteCall a ∷ l) = last_raw_below model l

@@ -3,10 +3,12 @@ use Prim.Native.Nat.{ℕ, ◌-◌, ◌<◌}
 use mathlib.Core.Path.{◌≡◌, refl, ap, ◌∙◌}
 use mathlib.Core.Bool.{Bool, true, false, cond, ◌&&◌}
 use mathlib.Core.List.{List, [], ◌∷◌}
+use mathlib.Core.Logic.{inl, inr}
 use native.Mathlib.Omega.{arith}
-use lib.ListN.{length, replicate}
+use lib.ListN.{length}
 use lib.Dec.{ltb, eqb}
-use borrow.Author.Tests.{ltb-true, ltb-false}
+use borrow.Author.Tests.{lt-ltb, le-ltb}
+use Rattle.std.proofs.lemmas.Bool.{cases_Bool, cases_lt}
 use Rattle.rules.specs.declared.Model.{Model}
 use Rattle.rules.specs.declared.Programming.{Programming}
 use Rattle.rules.specs.declared.Configuration.{Configuration}
@@ -18,20 +20,19 @@ use Rattle.rules.specs.declared.FileCycle.TheVariants.{SetupCycle, GroupCycle, L
 use Rattle.rules.specs.declared.Cycle.{Cycle}
 use Rattle.rules.specs.declared.Cycle.TheVariants.{OfFile, NudgeCycle}
 use Rattle.rules.specs.declared.Refusal.TheVariants.{NudgeOutput, NudgeSetpoint}
-use Rattle.rules.specs.declared.Outcome.TheVariants.{Idle}
 use Rattle.rules.specs.declared.Decision.{Decision}
 use Rattle.rules.specs.declared.Answer.{Answer}
 use Rattle.rules.specs.Words.{bit, word_of, forced}
 use Rattle.rules.specs.Variants.{model_known, model_of}
 use Rattle.rules.specs.Groups.{no_position, of_group}
 use Rattle.rules.specs.Switches.{present, limit_of, owner_of, rule_at, forced_off, forced_on, output_on, output_words, answer_of}
-use Rattle.rules.specs.Motion.{scale_factor, machine_at, conditions, fault_conditions}
-use Rattle.rules.specs.Cycle.{is_accepted, number_of, transmit_bit, with_acknowledges, with_acknowledge, with_fault, with_raw, stands, acts, underway, idle_cycle, cycle, turned_away, ignored_cycle, refused_cycle, accepted_cycle, judged}
+use Rattle.rules.specs.Motion.{scale_factor, conditions, fault_conditions}
+use Rattle.rules.specs.Cycle.{is_accepted, number_of, transmit_bit, stands, acts, underway, idle_cycle, cycle, turned_away, ignored_cycle, refused_cycle, accepted_cycle, judged}
 use Rattle.rules.specs.FileCycle.{file_length, length_refusal, data_refusal, barred, file_errors, brought, command, clears, file_acts, file_cycle}
 use Rattle.rules.specs.Nudge.{nudge_clear_bit, nudge_output, nudge_pair, nudge_output_bad, nudge_setpoint_bad, nudged_programming, nudge_acts, nudge_cycle}
 use Rattle.rules.specs.Bus.{shown_by}
 use Rattle.rules.specs.Calls.{Read, Write, Call, Step, FileCall, NudgeCall, ByteCall, fresh_configuration, sound, step_configuration, configuration_after}
-use Rattle.rules.specs.Card.{speed_now, conditions_now, rule_now, outputs_now, module_start, group_start, limit_start, start_of, since_after, fresh_module, powered_up, file_call, nudge_call, since_now, step_answer, kept_after, step_state, step_call, write_call}
+use Rattle.rules.specs.Card.{conditions_now, rule_now, outputs_now, module_start, group_start, limit_start, start_of, since_after, fresh_module, powered_up, file_call, nudge_call, since_now, step_answer, kept_after, step_state, step_call, write_call}
 use Rattle.rules.specs.Run.{accessed, module_after, run, answers, output_bit, EachStep}
 use Rattle.rules.specs.History.{configuration_of, programming_of, conditions_in, positions_in, openness_in, lasts_in, rule_in, outputs_in, last_position, previous_virtuals, expected_answer, expected_answers, is_module_start, last_raw, left_positions, acted, ignored_after, message_ignored}
 use Rattle.rules.proofs.Packing.{packed_bit, packed_same}
@@ -85,13 +86,8 @@ module _ (model : Model) (l : List Call) (s : Sample) where
 pub position_is : (model : Model) (l : List Call) → (run model l).state.kept.shown.position ≡ last_position model l
 unfolding run accessed module_after last_position fresh_module step_call step_state step_answer kept_after shown_by answer_of conditions_now conditions fault_conditions file_call nudge_call write_call
 position_is model [] = refl
-position_is model (Step s ∷ l) = rw (configuration_is model l) (go (sound (configuration_of model l) s) (position_is model l))
-  where
-    go : (q : Bool) → (run model l).state.kept.shown.position ≡ last_position model l
-        → (cond q (conditions_now (configuration_of model l) (run model l).state.since s) (fault_conditions (configuration_of model l) s (run model l).state.kept.shown.position)).machine
-        ≡ cond q (machine_at (configuration_of model l) s) (last_position model l)
-    go true k = refl
-    go false k = k
+position_is model (Step s ∷ l) =
+    rw (configuration_is model l) (elim (cases_Bool (sound (configuration_of model l) s)) [ inl q ↦ rw q | inr q ↦ rw q (position_is model l) ])
 position_is model (FileCall kind file ∷ l) = position_is model l
 position_is model (NudgeCall w ∷ l) = position_is model l
 position_is model (ByteCall (Read n) ∷ l) = position_is model l
@@ -117,13 +113,15 @@ record Tells (g : Configuration) (acting : Bool) (r : Decision) : Type 0 where
 cycle_tells : (kind : Cycle) (command : ℕ) (clear : Bool) (act : Configuration → Decision) (g : Configuration)
     → Tells g true (act (underway kind clear g)) → Tells g (acts kind command g) (cycle kind command clear act g)
 unfolding cycle idle_cycle acted ignored_after
-cycle_tells kind command clear act g k = go (acts kind command g) (bit command transmit_bit)
-  where
-    go : (a b : Bool)
-        → Tells g a (cond a (act (underway kind clear g)) (record { configuration = cond b g (with_acknowledges g (with_acknowledge kind false g.acknowledges)); outcome = Idle }))
-    go true b = k
-    go false true = record { raw = refl; ignored = refl; outcome = refl }
-    go false false = record { raw = refl; ignored = refl; outcome = refl }
+cycle_tells kind command clear act g k =
+    elim (cases_Bool (acts kind command g)) [
+      | inl a ↦ rw a k
+      | inr a ↦
+          elim (cases_Bool (bit command transmit_bit)) [
+            | inl b ↦ rw (a, b) (record { raw = refl; ignored = refl; outcome = refl })
+            | inr b ↦ rw (a, b) (record { raw = refl; ignored = refl; outcome = refl })
+          ]
+    ]
 
 file_acts_lem : (kind : FileCycle) (c : Cycle) (clear : Bool) (g : Configuration) (file : List ℕ) → Tells g true (file_acts kind file (underway c clear g))
 unfolding file_acts judged ignored_cycle accepted_cycle refused_cycle underway acted ignored_after number_of data_refusal
@@ -184,12 +182,7 @@ nudge_acted g w = (nudge_tells g w).outcome
 pub raw_is : (model : Model) (l : List Call) → (configuration_of model l).raw ≡ last_raw model l
 unfolding configuration_of configuration_after fresh_configuration step_configuration last_raw
 raw_is model [] = refl
-raw_is model (Step s ∷ l) = go (sound (configuration_of model l) s) (raw_is model l)
-  where
-    go : (q : Bool) → (configuration_of model l).raw ≡ last_raw model l
-        → (cond q (with_raw (configuration_of model l) s.raw) (with_fault (configuration_of model l) true)).raw ≡ cond q s.raw (last_raw model l)
-    go true k = refl
-    go false k = k
+raw_is model (Step s ∷ l) = elim (cases_Bool (sound (configuration_of model l) s)) [ inl q ↦ rw q | inr q ↦ rw q (raw_is model l) ]
 raw_is model (FileCall kind file ∷ l) = (file_tells kind (configuration_of model l) file).raw ∙ raw_is model l
 raw_is model (NudgeCall w ∷ l) = (nudge_tells (configuration_of model l) w).raw ∙ raw_is model l
 raw_is model (ByteCall a ∷ l) = raw_is model l
@@ -198,11 +191,7 @@ raw_is model (ByteCall a ∷ l) = raw_is model l
 pub ignored_is : (model : Model) (l : List Call) → (configuration_of model l).ignored ≡ message_ignored model l
 unfolding configuration_of configuration_after fresh_configuration step_configuration message_ignored
 ignored_is model [] = refl
-ignored_is model (Step s ∷ l) = go (sound (configuration_of model l) s) ∙ ignored_is model l
-  where
-    go : (q : Bool) → (cond q (with_raw (configuration_of model l) s.raw) (with_fault (configuration_of model l) true)).ignored ≡ (configuration_of model l).ignored
-    go true = refl
-    go false = refl
+ignored_is model (Step s ∷ l) = elim (cases_Bool (sound (configuration_of model l) s)) [ inl q ↦ rw q (ignored_is model l) | inr q ↦ rw q (ignored_is model l) ]
 ignored_is model (FileCall kind file ∷ l) =
     let g : Configuration = configuration_of model l in
     (file_tells kind g file).ignored ∙ ap (ignored_after (file_cycle kind g file).outcome) (ignored_is model l)
@@ -221,20 +210,11 @@ pub positions_are : (model : Model) (l : List Call) → (run model l).state.sinc
 unfolding run accessed module_after left_positions is_module_start fresh_module module_start step_call step_state since_now since_after file_call start_of group_start limit_start nudge_call write_call
 positions_are model [] = refl
 positions_are model (Step s ∷ l) =
-    rw (configuration_is model l, conditions_in_lem model l s) (go (sound (configuration_of model l) s))
-  where
-    go : (q : Bool)
-        → (cond q (since_after (programming_of model l) (conditions_in model l s) (speed_now (programming_of model l).setup (run model l).state.since.speed s) (run model l).state.since) module_start).positions
-        ≡ cond q (positions_in model l s) (replicate 6 no_position)
-    go true = positions_in_lem model l (run model l).state.since (agrees model l) s
-    go false = refl
+    rw (configuration_is model l, conditions_in_lem model l s)
+    (elim (cases_Bool (sound (configuration_of model l) s)) [ inl q ↦ rw q (positions_in_lem model l (run model l).state.since (agrees model l) s) | inr q ↦ rw q ])
 positions_are model (FileCall SetupCycle file ∷ l) =
-    rw (configuration_is model l) (go (is_accepted (file_cycle SetupCycle (configuration_of model l) file).outcome) (positions_are model l))
-  where
-    go : (q : Bool) → (run model l).state.since.positions ≡ left_positions model l
-        → (cond q module_start (run model l).state.since).positions ≡ cond q (replicate 6 no_position) (left_positions model l)
-    go true k = refl
-    go false k = k
+    rw (configuration_is model l)
+    (elim (cases_Bool (is_accepted (file_cycle SetupCycle (configuration_of model l) file).outcome)) [ inl q ↦ rw q | inr q ↦ rw q (positions_are model l) ])
 positions_are model (FileCall GroupCycle file ∷ l) =
     let x : SinceStart = (run model l).state.since in
     same_positions (is_accepted (file_cycle GroupCycle (run model l).configuration file).outcome) (group_start x) x refl ∙ positions_are model l
@@ -287,11 +267,11 @@ every_answer x n k calls = rw (powered_up_lem x n k) (answers_from (model_of n) 
 
 -- of two words packed from outputs, bit n is output n
 word_bit : (output : ℕ → Bool) (n : ℕ) → n < 32 → cond (ltb n 16) (bit (word_of 0 output) n) (bit (word_of 16 output) (n - 16)) ≡ output n
-word_bit output n b = go (ltb n 16) refl
-  where
-    go : (real : Bool) → ltb n 16 ≡ real → cond real (bit (word_of 0 output) n) (bit (word_of 16 output) (n - 16)) ≡ output n
-    go true e = let h = ltb-true n 16 e in packed_bit 16 0 n output h ∙ ap output (omega arith)
-    go false e = let h = ltb-false n 16 e in packed_bit 16 16 (n - 16) output (omega arith) ∙ ap output (omega arith)
+word_bit output n b =
+    elim (cases_lt n 16) [
+      | inl h ↦ rw (lt-ltb n 16 h) (packed_bit 16 0 n output h ∙ ap output (omega arith))
+      | inr h ↦ rw (le-ltb n 16 h) (packed_bit 16 16 (n - 16) output (omega arith) ∙ ap output (omega arith))
+    ]
 
 -- Of a step after the calls `l`, the latest first, and of its answer: the bit of each of the 32 outputs, counted from 0, is on exactly when the output is
 -- present and 01's rule holds by the history: not forced off, and forced on or, in a step not answered 11, the switch holds, the group is open and what is

@@ -4,12 +4,14 @@ use Prim.Native.Nat.{ℕ, suc, ◌+◌, ◌-◌, ◌*◌, ◌%◌, ◌^◌, ◌�
 use mathlib.Core.Path.{◌≡◌, refl, sym, ap, ◌∙◌}
 use mathlib.Core.Bool.{Bool, true, false, cond}
 use mathlib.Core.List.{List, [], ◌∷◌}
+use mathlib.Core.Logic.{inl, inr}
 use native.Mathlib.Nat.{zero-mod, suc-mod, mod-lt, mod_self, mod-eq_of_lt, mod-le}
 use native.Mathlib.Omega.{arith}
 use lib.ListN.{length, take, drop}
 use lib.Dec.{ltb, eqb, lit<, lit≤}
 use lib.IntN.{ℤ, pos, nat_abs, sub_ℕ, ◌+ℤ◌, ◌-ℤ◌, -ℤ-+ℤ_cancel}
-use borrow.Author.Tests.{ltb-true, ltb-false, leb-true, leb-false, lt-ltb, le-ltb, eq-eqb, ne_eqb}
+use borrow.Author.Tests.{leb-true, leb-false, lt-ltb, le-ltb, eq-eqb, ne_eqb}
+use Rattle.std.proofs.lemmas.Bool.{cases_Bool, cases_lt}
 use Rattle.rules.specs.declared.Setup.{Setup}
 use Rattle.rules.specs.declared.Last.{Last}
 use Rattle.rules.specs.declared.Window.{Window}
@@ -80,13 +82,14 @@ module _ (w : ℕ) (some : 0 < w) (small : w ≤ 2520) (h : List ℤ) (x : Windo
     goes f = let b = mod-lt (length h) some in suc-mod (length h) w ∙ mod-eq_of_lt (omega (arith, f))
 
     -- both are below the window, or neither
-    early : (suc (length h % w) ≡ w → ⊥) → (q : Bool) → ltb (length h) w ≡ q → ltb (suc (length h)) w ≡ q
-    early f true e =
-        let l = ltb-true (length h) w e in
-        let s = mod-eq_of_lt l in
-        let g : suc (length h) ≡ w → ⊥ = λ d. f (ap suc s ∙ d) in
-        lt-ltb (suc (length h)) w (omega (arith, g))
-    early f false e = let l = ltb-false (length h) w e in le-ltb (suc (length h)) w (omega arith)
+    early : (suc (length h % w) ≡ w → ⊥) → ltb (suc (length h)) w ≡ ltb (length h) w
+    early f =
+        elim (cases_lt (length h) w) [
+          | inl l ↦
+              let g : suc (length h) ≡ w → ⊥ = λ d. f (ap suc (mod-eq_of_lt l) ∙ d) in
+              rw (lt-ltb (length h) w l, lt-ltb (suc (length h)) w (omega (arith, g)))
+          | inr l ↦ rw (le-ltb (length h) w l, le-ltb (suc (length h)) w (omega arith))
+        ]
 
     -- the sum of the window so far and this movement
     total_is : pos (x.sum + m) -ℤ pos (512 * suc x.steps) ≡ z +ℤ total (take (length h % w) h)
@@ -104,42 +107,40 @@ module _ (w : ℕ) (some : 0 < w) (small : w ≤ 2520) (h : List ℤ) (x : Windo
     inner e d = let l = leb-false (w - 1) x.steps e in let s = k.steps in omega arith
 
     pub update_is : updates w x ≡ eqb (suc (length h) % w) 0
-    update_is = go (updates w x) refl
-      where
-        go : (q : Bool) → updates w x ≡ q → q ≡ eqb (suc (length h) % w) 0
-        go true e = sym (eq-eqb (suc (length h) % w) 0 (wraps (last e)))
-        go false e = sym (ne_eqb (suc (length h) % w) 0 (λ d. let g = goes (inner e) in omega arith))
+    update_is =
+        elim (cases_Bool (updates w x)) [
+          | inl e ↦ e ∙ sym (eq-eqb (suc (length h) % w) 0 (wraps (last e)))
+          | inr e ↦ e ∙ sym (ne_eqb (suc (length h) % w) 0 (λ d. let g = goes (inner e) in omega arith))
+        ]
 
     pub window_step : WindowLink w (z ∷ h) (window_after w x m)
     unfolding window_after
-    window_step = go (updates w x) refl
-      where
-        go : (q : Bool) → updates w x ≡ q → WindowLink w (z ∷ h) (cond q (record { steps = 0; sum = 0 }) (record { steps = x.steps + 1; sum = window_sum x m }))
-        go true e = record { steps = sym (wraps (last e)); sum = rw (wraps (last e)); within = omega arith }
-        go false e =
-            let g = goes (inner e) in
-            let s : x.steps + 1 ≡ suc x.steps = omega arith in
-            record {
-              steps = rw (g, s) (ap suc k.steps);
-              sum = rw (g, sum_is, s) total_is;
-              within = rw sum_is (let i = k.within in omega arith);
-            }
+    window_step =
+        elim (cases_Bool (updates w x)) [
+          | inl e ↦ rw e (record { steps = sym (wraps (last e)); sum = rw (wraps (last e)); within = omega arith })
+          | inr e ↦
+              let g = goes (inner e) in
+              let s : x.steps + 1 ≡ suc x.steps = omega arith in
+              rw e (record {
+                steps = rw (g, s) (ap suc k.steps);
+                sum = rw (g, sum_is, s) total_is;
+                within = rw sum_is (let i = k.within in omega arith);
+              })
+        ]
 
     -- what an update gives, and what stands between updates
     pub value_is : (v : ℤ) → v ≡ window_total w h → cond (updates w x) (sub_ℕ (window_sum x m) (512 * w)) v ≡ window_total w (z ∷ h)
     unfolding window_total
-    value_is v i = go (updates w x) refl
-      where
-        go : (q : Bool) → updates w x ≡ q
-            → cond q (sub_ℕ (window_sum x m) (512 * w)) v
-            ≡ cond (ltb (suc (length h)) w) (pos 0) (total (take w (drop (suc (length h) % w) (z ∷ h))))
-        go true e =
-            let E = last e in
-            let l = mod-le (length h) w in
-            let s : suc x.steps ≡ w = ap suc k.steps ∙ E in
-            rw (le-ltb (suc (length h)) w (omega arith), wraps E, sum_is, ← minus (x.sum + m) (512 * w))
-            ((rw s at total_is) ∙ ap (λ (n : ℕ). total (take n (z ∷ h))) E)
-        go false e = rw (goes (inner e), early (inner e) (ltb (length h) w) refl) i
+    value_is v i =
+        elim (cases_Bool (updates w x)) [
+          | inl e ↦
+              let E = last e in
+              let l = mod-le (length h) w in
+              let s : suc x.steps ≡ w = ap suc k.steps ∙ E in
+              rw (e, le-ltb (suc (length h)) w (omega arith), wraps E, sum_is, ← minus (x.sum + m) (512 * w))
+              ((rw s at total_is) ∙ ap (λ (n : ℕ). total (take n (z ∷ h))) E)
+          | inr e ↦ rw (e, goes (inner e), early (inner e)) i
+        ]
 
 pub window_fresh : (w : ℕ) → WindowLink w [] fresh_window
 window_fresh w = record { steps = sym (zero-mod w); sum = rw (zero-mod w); within = lit≤ tt }

@@ -9,10 +9,11 @@ use borrow.Author.Tests.{lt-ltb, le-ltb}
 use lib.Dec.{ltb}
 use lib.IntN.{ℤ, pos, negsuc, neg_ℤ, nat_abs, sub_ℕ, ◌+ℤ◌, ◌-ℤ◌, ◌*ℤ◌, +ℤ_assoc, +ℤ_comm, +ℤ_idl, +ℤ_invl, neg_ℤ-+ℤ, neg_ℤ-neg_ℤ}
 use lib.Signed.{quot_z}
+use Rattle.std.proofs.lemmas.Nat.{mod_below}
 use Rattle.rules.specs.Motion.{c_value}
 use Rattle.rules.specs.Counts.{ahead}
 use Rattle.rules.specs.Switches.{signed, advance_shift}
-use Rattle.rules.proofs.Laws.{minus, mod_below, ahead_below}
+use Rattle.rules.proofs.Laws.{minus, ahead_below}
 use Rattle.rules.proofs.Congruence.{congruent, modulo_only, ahead_gives, summed}
 use Rattle.switch.specs.Parts.{shift_bias, shift_counts, taken_back}
 
@@ -128,5 +129,5 @@ pub back_up : (t s b m p r : ℕ) → s ≡ b + m → r ≡ (p + m % (t + 1)) % 
 unfolding taken_back
 back_up t s b m p r e h =
     rw (shifted p s b)
-    (modulo_only t (p + s) b r (rw h (mod_below (p + m % (t + 1)) t))
+    (modulo_only t (p + s) b r (rw h (mod_below (p + m % (t + 1)) (t + 1) (omega arith)))
     (congruent t r (p + m) b (r + b) (p + s) (rw (h, mod-mod (p + m % (t + 1)) (t + 1)) (add-mod-mod p m (t + 1))) refl (omega arith)))

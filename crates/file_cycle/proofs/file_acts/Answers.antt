@@ -1,7 +1,7 @@
 -- `file_cycle::file_acts` meets its contract: the judgement, with the check handed in. Assumes nothing.
 use Rattle.rules.specs.declared.Cycle.TheVariants.{OfFile}
 use Rattle.rules.specs.FileCycle.{file_acts, data_refusal, brought}
-use Rattle.file_cycle.proofs.Laws.{errors_underway}
+use Rattle.rules.proofs.Cycles.{errors_underway}
 use Rattle.file_cycle.proofs.file_acts.Goals as goal
 
 pub returns : goal.returns

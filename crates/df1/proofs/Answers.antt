@@ -16,17 +16,17 @@ pub write_not_allowed : (bytes : List ℕ) (room : ℕ) → false ≡ allowed (l
 unfolding write_outcome
 write_not_allowed bytes room h = rw (← h)
 
-pub write_fit : (bytes : List ℕ) (n room : ℕ) → true ≡ allowed (length bytes) → n ≡ dle_count bytes → fit_outcome (length bytes + n + 5) room ≡ write_outcome bytes room
+pub write_fit : (bytes : List ℕ) {n : ℕ} (room : ℕ) → true ≡ allowed (length bytes) → n ≡ dle_count bytes → fit_outcome (length bytes + n + 5) room ≡ write_outcome bytes room
 unfolding write_outcome
-write_fit bytes n room h e = rw (← h) (ap (λ (n : ℕ). fit_outcome n room) (omega (arith, frame_size bytes, e)))
+write_fit bytes room h e = rw (← h) (ap (λ (n : ℕ). fit_outcome n room) (omega (arith, frame_size bytes, e)))
 
 pub read_no_frame : (input : List ℕ) (room : ℕ) → is_frame input ≡ false → Err NotAFrame ≡ read_outcome input room
 unfolding read_outcome
 read_no_frame input room h = rw h
 
-pub read_fit : (input body : List ℕ) (count room : ℕ) → IsBody input body count → fit_outcome count room ≡ read_outcome input room
+pub read_fit : {input body : List ℕ} {count : ℕ} (room : ℕ) → IsBody input body count → fit_outcome count room ≡ read_outcome input room
 unfolding read_outcome
-read_fit input body count room is = rw (is.frame, is.number)
+read_fit room is = rw (is.frame, is.number)
 
 -- what a call leaves, by its outcome
 pub refused_leaves : (o : Result ℕ Refusal) (why : Refusal) (bytes buffer : List ℕ) → Err why ≡ o → buffer ≡ buffer_after o bytes buffer

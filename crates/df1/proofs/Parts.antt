@@ -1,13 +1,15 @@
 -- The parts of a frame: an input is one exactly where it has them.
 -- Assumes nothing.
-use Rattle.std.proofs.Common.{◌≡◌, ℕ, suc, ◌+◌, ◌-◌, ◌≤◌, Bool, true, false, List, [], ◌∷◌, ◌++◌, length, get_or, take, drop, sym, refl, ap, subst, ◌∙◌, arith, length-append, take-append-drop, drop_of_length-le, drop-cons, take_at, get_or-append-add, Some, None, set, length-take, length-drop, drop-drop}
+use Rattle.std.proofs.Common.{◌≡◌, ℕ, suc, ◌+◌, ◌-◌, ◌≤◌, true, false, List, [], ◌∷◌, ◌++◌, length, get_or, take, drop, sym, refl, ap, subst, ◌∙◌, arith, length-append, take-append-drop, drop_of_length-le, drop-cons, take_at, get_or-append-add, Some, None, set, length-take, length-drop, drop-drop}
 use lib.Seq.{sets, sets-eq}
 use Rattle.std.proofs.Math.Seq.{take-append_seam, drop-append-add}
+use Rattle.std.proofs.lemmas.Bool.{and_parts, false_from_ne_true}
+use Rattle.std.proofs.lemmas.Bool.Decides.{nat_tests}
 use borrow.Rule.Slice.PartMut.{put_mid}
-use Rattle.df1.specs.Frame.{dle, stx, etx, allowed, doubled, check_byte, frame_of, inside, sum_of, undoubled, data_of, same, is_frame}
+use Rattle.df1.specs.Frame.{dle, stx, etx, allowed, doubled, check_byte, frame_of, inside, sum_of, undoubled, data_of, is_frame}
 use Rattle.df1.specs.Parts.{paired, scan_of}
 use Rattle.df1.specs.declared.Scan.{Scan}
-use Rattle.df1.proofs.Laws.{sets_start, sets_whole, and_left, and_right, paired_doubled, doubled_undoubled, undoubled_doubled, same_refl, same_true}
+use Rattle.df1.proofs.Laws.{sets_start, sets_whole, paired_doubled, doubled_undoubled, undoubled_doubled, same_refl, same_true}
 
 -- the last byte of an input
 abbrev pub last_of : List ℕ → ℕ
@@ -119,12 +121,13 @@ module _ (input : List ℕ) where
   pub frame_parts : is_frame input ≡ true → HasParts input
   unfolding is_frame
   frame_parts h =
-      let e = same_true input (frame_of (data_of input)) (and_left (same input (frame_of (data_of input))) (allowed (length (data_of input))) h) in
+      let p = and_parts _ _ h in
+      let e = same_true input (frame_of (data_of input)) p.0 in
       record {
         framed = subst Framed (sym e) (frame_framed (data_of input));
         pairs = ap paired (ap inside e ∙ frame_inside (data_of input)) ∙ paired_doubled (data_of input);
         check = ap last_of e ∙ frame_last (data_of input);
-        number = and_right (same input (frame_of (data_of input))) (allowed (length (data_of input))) h;
+        number = p.1;
       }
 
   pub parts_frame : HasParts input → is_frame input ≡ true
@@ -134,36 +137,20 @@ module _ (input : List ℕ) where
       rw (e, same_refl input) p.number
 
   pub no_frame : (HasParts input → ⊥) → is_frame input ≡ false
-  no_frame h = go (is_frame input) refl
-    where
-      go : (is : Bool) → is_frame input ≡ is → is_frame input ≡ false
-      go true e = absurd (h (frame_parts e))
-      go false e = e
+  no_frame h = false_from_ne_true (is_frame input) (λ e. h (frame_parts e))
 
   pub unframed : (Framed input → ⊥) → is_frame input ≡ false
   unframed h = no_frame (λ p. h p.framed)
 
 -- what a scan of a body says
-scan_of_paired : (body : List ℕ) → paired body ≡ true → scan_of body ≡ Some (record { count = length (undoubled body); sum = sum_of (undoubled body) })
-unfolding scan_of
-scan_of_paired body e = rw e
-
-scan_of_unpaired : (body : List ℕ) → paired body ≡ false → scan_of body ≡ None
-unfolding scan_of
-scan_of_unpaired body e = rw e
-
 pub scan_none : (body : List ℕ) → None ≡ scan_of body → paired body ≡ true → ⊥
-scan_none body n e = let h = scan_of_paired body e in cc
+unfolding scan_of
+scan_none body n e = let h = rw e at n in cc
 
 pub scan_some : (body : List ℕ) (s : Scan) → Some s ≡ scan_of body
     → (paired body ≡ true) × (s.count ≡ length (undoubled body)) × (s.sum ≡ sum_of (undoubled body))
-scan_some body s h = go (paired body) refl
-  where
-    go : (is : Bool) → paired body ≡ is → (paired body ≡ true) × (s.count ≡ length (undoubled body)) × (s.sum ≡ sum_of (undoubled body))
-    go true e =
-        let f : s ≡ record { count = length (undoubled body); sum = sum_of (undoubled body) } = (let k = scan_of_paired body e in cc) in
-        (e, ap (λ (t : Scan). t.count) f, ap (λ (t : Scan). t.sum) f)
-    go false e = let k = scan_of_unpaired body e in cc
+unfolding scan_of
+scan_some body s h = grind (arith, nat_tests)
 
 -- ---- A frame stored
 

@@ -1,14 +1,16 @@
 -- What 02 says of frames, of the definitions that the contracts cite: data read back, an accepted frame is the writer's, a frame has 6 to 493 bytes, and each refusal comes exactly where it is listed.
 -- Assumes nothing.
-use Rattle.std.proofs.Common.{◌==◌, ◌≡◌, ℕ, ◌<◌, ◌≤◌, Bool, true, false, cond, ltb, leb, List, [], ◌∷◌, ◌++◌, length, take, drop, replicate, sym, refl, ap, ◌∙◌, arith, ltb-true, lt-ltb, le-leb, leb-false, leb-true, Result, Ok, Err}
+use Rattle.std.proofs.Common.{◌==◌, ◌≡◌, ℕ, ◌<◌, ◌≤◌, Bool, true, false, cond, leb, List, [], ◌∷◌, ◌++◌, length, take, drop, replicate, sym, refl, ap, ◌∙◌, arith, le-leb, leb-false, leb-true, Result, Ok, Err}
 use mathlib.Core.Bool.{false≢true}
 use borrow.Author.Tests.{lt-leb}
 use lib.Seq.{take-append_seam}
+use Rattle.std.proofs.lemmas.Bool.{and_parts, false_from_ne_true}
+use Rattle.std.proofs.lemmas.Bool.Decides.{nat_tests}
 use Rattle.std.proofs.lemmas.List.Sums.{count_by-le-length}
 use Rattle.df1.specs.declared.Refusal.{Refusal}
 use Rattle.df1.specs.declared.Refusal.TheVariants.{DataLength, ShortBuffer, NotAFrame}
-use Rattle.df1.specs.Frame.{dle, allowed, sent, doubled, frame_of, data_of, same, is_frame, fit_outcome, write_outcome, read_outcome, buffer_after, write_buffer, read_buffer}
-use Rattle.df1.proofs.Laws.{and_left, and_right, same_true, same_refl}
+use Rattle.df1.specs.Frame.{dle, allowed, sent, doubled, frame_of, data_of, is_frame, fit_outcome, write_outcome, read_outcome, buffer_after, write_buffer, read_buffer}
+use Rattle.df1.proofs.Laws.{same_true, same_refl}
 use Rattle.df1.proofs.Parts.{frame_data}
 use Rattle.df1.proofs.Answers.{frame_size}
 
@@ -25,14 +27,11 @@ pub record FrameOf (bytes input : List ℕ) : Type 0 where
 
 allowed_true : (bytes : List ℕ) → Allowed bytes → allowed (length bytes) ≡ true
 unfolding Allowed
-allowed_true bytes h = rw (lt-ltb 0 (length bytes) h.0, le-leb (length bytes) 244 h.1)
+allowed_true bytes h = grind (arith, nat_tests)
 
 true_allowed : (bytes : List ℕ) → allowed (length bytes) ≡ true → Allowed bytes
 unfolding Allowed
-true_allowed bytes h = (
-  ltb-true 0 (length bytes) (and_left (ltb 0 (length bytes)) (leb (length bytes) 244) h),
-  leb-true (length bytes) 244 (and_right (ltb 0 (length bytes)) (leb (length bytes) 244) h),
-)
+true_allowed bytes h = grind (arith, nat_tests)
 
 -- ---- Frames and their data
 
@@ -46,10 +45,9 @@ reads_back bytes h =
 -- "an accepted frame is the one that the writer makes of its data"
 pub accepted_frame : (input : List ℕ) → is_frame input ≡ true → FrameOf (data_of input) input
 unfolding is_frame
-accepted_frame input h = record {
-  number = true_allowed (data_of input) (and_right (same input (frame_of (data_of input))) (allowed (length (data_of input))) h);
-  whole = same_true input (frame_of (data_of input)) (and_left (same input (frame_of (data_of input))) (allowed (length (data_of input))) h);
-}
+accepted_frame input h =
+    let p = and_parts _ _ h in
+    record { number = true_allowed (data_of input) p.1; whole = same_true input (frame_of (data_of input)) p.0 }
 
 -- no two data strings share a frame
 pub one_frame : (a b : List ℕ) → frame_of a ≡ frame_of b → a ≡ b
@@ -88,30 +86,15 @@ decided t u why n = cond t (cond u (Ok n) (Err ShortBuffer)) (Err why)
 module _ (why : Refusal) (apart : why ≡ ShortBuffer → ⊥) (n : ℕ) where
   turned_away_lem : (t u : Bool) → Exactly (decided t u why n ≡ Err why) (t ≡ false)
   unfolding Exactly decided
-  turned_away_lem t u = (only t u, λ e. rw e)
-    where
-      only : (t u : Bool) → decided t u why n ≡ Err why → t ≡ false
-      only true true h = cc
-      only true false h = absurd (apart (cc))
-      only false u h = refl
+  turned_away_lem t u = (λ h. grind (arith, nat_tests), λ e. rw e)
 
   too_short : (t u : Bool) → Exactly (decided t u why n ≡ Err ShortBuffer) ((t ≡ true) × (u ≡ false))
   unfolding Exactly decided
-  too_short t u = (only t u, λ e. rw (e.0, e.1))
-    where
-      only : (t u : Bool) → decided t u why n ≡ Err ShortBuffer → (t ≡ true) × (u ≡ false)
-      only true true h = cc
-      only true false h = (refl, refl)
-      only false u h = absurd (apart (cc))
+  too_short t u = (λ h. grind (arith, nat_tests), λ e. rw (e.0, e.1))
 
   taken : (t u : Bool) (m : ℕ) → Exactly (decided t u why n ≡ Ok m) ((t ≡ true) × (u ≡ true) × (m ≡ n))
   unfolding Exactly decided
-  taken t u m = (only t u, λ e. rw (e.0, e.1, e.2))
-    where
-      only : (t u : Bool) → decided t u why n ≡ Ok m → (t ≡ true) × (u ≡ true) × (m ≡ n)
-      only true true h = (refl, refl, cc)
-      only true false h = cc
-      only false u h = cc
+  taken t u m = (λ h. grind (arith, nat_tests), λ e. rw (e.0, e.1, e.2))
 
 length_apart : DataLength ≡ ShortBuffer → ⊥
 length_apart e = cc
@@ -119,16 +102,12 @@ length_apart e = cc
 frame_apart : NotAFrame ≡ ShortBuffer → ⊥
 frame_apart e = cc
 
-is_false : (t : Bool) → (t ≡ true → ⊥) → t ≡ false
-is_false true h = absurd (h refl)
-is_false false h = refl
-
 -- "15 for data of 0 or over 244 bytes on writing"
 pub write_refused_15 : (bytes : List ℕ) (room : ℕ) → Exactly (write_outcome bytes room ≡ Err DataLength) (Allowed bytes → ⊥)
 unfolding Exactly write_outcome fit_outcome decided
 write_refused_15 bytes room =
     let e = turned_away_lem DataLength length_apart (length (frame_of bytes)) (allowed (length bytes)) (leb (length (frame_of bytes)) room) in
-    (λ h a. false≢true (sym (e.0 h) ∙ allowed_true bytes a), λ h. e.1 (is_false (allowed (length bytes)) (λ t. h (true_allowed bytes t))))
+    (λ h a. false≢true (sym (e.0 h) ∙ allowed_true bytes a), λ h. e.1 (false_from_ne_true (allowed (length bytes)) (λ t. h (true_allowed bytes t))))
 
 -- "16, after 15, for a buffer shorter than the frame"
 pub write_refused_16 : (bytes : List ℕ) (room : ℕ) → Exactly (write_outcome bytes room ≡ Err ShortBuffer) (Allowed bytes × (room < length (frame_of bytes)))
@@ -153,7 +132,7 @@ pub read_refused_17 : (input : List ℕ) (room : ℕ) → Exactly (read_outcome 
 unfolding Exactly read_outcome fit_outcome decided
 read_refused_17 input room =
     let e = turned_away_lem NotAFrame frame_apart (length (data_of input)) (is_frame input) (leb (length (data_of input)) room) in
-    (λ h bytes f. false≢true (sym (e.0 h) ∙ (one_reading bytes input f).0), λ h. e.1 (is_false (is_frame input) (λ t. h (data_of input) (accepted_frame input t))))
+    (λ h bytes f. false≢true (sym (e.0 h) ∙ (one_reading bytes input f).0), λ h. e.1 (false_from_ne_true (is_frame input) (λ t. h (data_of input) (accepted_frame input t))))
 
 -- "and after it 16 when the lent buffer is shorter than the data"
 pub read_refused_16 : (input : List ℕ) (room : ℕ) → Exactly (read_outcome input room ≡ Err ShortBuffer) ((bytes : List ℕ) × FrameOf bytes input × (room < length bytes))

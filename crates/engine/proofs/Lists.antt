@@ -1,12 +1,13 @@
 -- Laws of lists that a step cites: tables filled upwards and downwards by a loop.
 -- Assumes nothing.
-use Prim.Native.Nat.{ℕ, zero, suc, ◌+◌, ◌-◌, ◌<◌, ◌≤◌}
-use mathlib.Core.List.{List, [], ◌∷◌, map}
+use Prim.Native.Nat.{ℕ, suc, ◌+◌, ◌-◌, ◌<◌, ◌≤◌}
+use mathlib.Core.List.{List}
 use mathlib.Core.Path.{◌≡◌, refl, sym, ◌∙◌}
 use native.Mathlib.Numerals.{add-one}
 use native.Mathlib.Omega.{arith}
-use lib.ListN.{length, get_or, take, drop, set, length-set, length-map, drop_of_length-le}
+use lib.ListN.{length, get_or, take, drop, set, length-set}
 use lib.Seq.{take-suc, take-suc-set, take_all}
+use Rattle.std.proofs.lemmas.List.{drop-set, drop_all}
 use Rattle.rules.specs.Words.{table}
 use Rattle.rules.proofs.Packing.{table_more}
 
@@ -40,27 +41,16 @@ module _ {A : Type 0} where
   unfolding table
   down_none n f xs h =
       let z : n - n ≡ 0 = omega arith in
-      (h, rw z (drop_of_length-le xs {i = n} (omega arith)))
-
-  drop_set : (xs : List A) (k : ℕ) (v : A) → k < length xs → drop k (set xs k v) ≡ v ∷ drop (k + 1) xs
-  drop_set [] k v h = absurd (omega arith)
-  drop_set (x ∷ xs) zero v h = refl
-  drop_set (x ∷ xs) (suc k) v h =
-      let e : suc k + 1 ≡ suc (k + 1) = omega arith in
-      rw e (drop_set xs k v (omega arith))
+      (h, rw z (drop_all n xs (omega arith)))
 
   pub down_more : (n k : ℕ) (f : ℕ → A) (xs : List A) (v : A) → 0 < k → k ≤ n → FilledDown n k f xs → v ≡ f (k - 1) → FilledDown n (k - 1) f (set xs (k - 1) v)
   unfolding table
   down_more n k f xs v h l e q =
       let m : n - (k - 1) ≡ suc (n - k) = omega arith in
       let j : k - 1 + 1 ≡ k = omega arith in
-      (simp length-set e.0, rw (m, drop_set xs (k - 1) v (omega arith), j, e.1, q))
+      (simp length-set e.0, rw (m, drop-set xs (k - 1) v (omega arith), j, e.1, q))
 
   pub down_all : (n k : ℕ) (f : ℕ → A) (xs : List A) → k ≡ 0 → FilledDown n k f xs → xs ≡ table n 0 f
   down_all n k f xs h e =
       let z : n - 0 ≡ n = omega arith in
       rw z at (rw h at e.1)
-
--- the length of an array of structs, told of the list of their values
-pub length_mapped : {X Y : Type 0} (f : X → Y) (l : List X) (n : ℕ) → length (map f l) ≡ n → length l ≡ n
-length_mapped f l n e = sym (length-map l f) ∙ e

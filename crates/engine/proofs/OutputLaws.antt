@@ -1,12 +1,12 @@
 -- Laws of an output before the forces: what the kind of its switch leaves of the rule.
 -- Assumes nothing.
-use Prim.Native.Nat.{ℕ, zero, suc, ◌+◌}
-use mathlib.Core.Bool.{Bool, true, false, cond, ◌&&◌, ◌||◌, true≢false}
-use mathlib.Core.Path.{◌≡◌, refl, sym, ◌∙◌}
+use Prim.Native.Nat.{ℕ, ◌+◌}
+use mathlib.Core.Bool.{Bool, true, false, ◌&&◌, ◌||◌, true≢false}
+use mathlib.Core.Path.{◌≡◌, refl}
 use native.Mathlib.Omega.{arith}
 use lib.Dec.{ltb}
 use lib.IntN.{ℤ}
-use borrow.Author.Tests.{lt-ltb}
+use Rattle.std.proofs.lemmas.Bool.Decides.{nat_tests}
 use Rattle.rules.specs.declared.Position.{Position}
 use Rattle.rules.specs.declared.Switch.{Switch}
 use Rattle.rules.specs.declared.Switch.TheVariants.{Unprogrammed, Normal, Pulse, Timed}
@@ -29,15 +29,11 @@ is_timed (Timed t) = true
 
 -- ---- What the kind leaves of the rule
 
-held_lasts : (held : Bool) (left : ℕ) → held && ltb 0 (cond held left 0) ≡ ltb 0 (cond held left 0)
-held_lasts true left = refl
-held_lasts false left = refl
-
 -- a timed switch is on while its time lasts: it has none where its pair does not hold
 lasts : (t sf : ℕ) (c : ℤ) (l : Limit) (p : Position) (x : TimedState) →
     switch_holds sf c l (Timed t) p (ltb 0 (timed_after (Timed t) (pair_holds sf c l 0 p) x).left) ≡ ltb 0 (timed_after (Timed t) (pair_holds sf c l 0 p) x).left
 unfolding switch_holds timed_after
-lasts t sf c l p x = held_lasts (pair_holds sf c l 0 p) _
+lasts t sf c l p x = grind (arith, nat_tests)
 
 -- another switch has no time
 no_time : (s : Switch) (sf : ℕ) (c : ℤ) (l : Limit) (p : Position) (lasting : Bool) → is_timed s ≡ false → switch_holds sf c l s p lasting ≡ switch_holds sf c l s p false
@@ -77,9 +73,7 @@ module _ (w : Conditions) (l : Limit) (position : GroupPosition) where
 
 -- a timed switch that neither held nor has time left is as at a start
 rest_by : (held : Bool) (left : ℕ) → (held || ltb 0 left) ≡ false → record { held = held; left = left } ≡ fresh_timed
-rest_by true left e = absurd (true≢false e)
-rest_by false zero e = refl
-rest_by false (suc n) e = absurd (true≢false (sym (lt-ltb 0 (suc n) (omega arith)) ∙ e))
+rest_by held left e = grind (arith, nat_tests)
 
 pub at_rest : (x : TimedState) → (x.held || ltb 0 x.left) ≡ false → x ≡ fresh_timed
 at_rest x e = rest_by x.held x.left e

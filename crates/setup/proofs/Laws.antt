@@ -1,6 +1,6 @@
 -- Laws of the setup words. Assumes nothing.
 use Prim.Native.Nat.{ℕ, ◌+◌, ◌-◌, ◌%◌}
-use mathlib.Core.Bool.{Bool, true, false, not, xor, beq}
+use mathlib.Core.Bool.{Bool, not, xor, beq}
 use mathlib.Core.Path.{◌≡◌, refl, sym, ap, ◌∙◌}
 use native.Mathlib.Nat.{mul-zero, mod-zero}
 use native.Mathlib.Omega.{arith}
@@ -14,10 +14,7 @@ use Rattle.rules.proofs.Laws.{modulo_natural}
 -- the exclusive or is that two bits differ
 pub xor_differs : (a b : Bool) → xor a b ≡ not (beq a b)
 unfolding xor
-xor_differs true true = refl
-xor_differs true false = refl
-xor_differs false true = refl
-xor_differs false false = refl
+xor_differs a b = refl
 
 -- the offset that gives the preset, as the code works it out; a scale factor of 0 is never in force
 pub preset_zero : (reversed : Bool) (preset raw : ℕ) → preset_offset 0 reversed preset raw ≡ preset

@@ -1,19 +1,21 @@
 -- Laws of the rules' words: the digits of `packed`, bits of a bitwise operation, counts over bits, words stored into a file. Callers cite these and open none of the definitions.
 -- Assumes nothing.
 use Prim.Native.Nat.{ℕ, zero, suc, ◌+◌, ◌*◌, ◌/◌, ◌%◌, ◌-◌, ◌^◌, ◌≤◌, ◌<◌, min, max}
-use mathlib.Core.Bool.{Bool, true, false, cond, not, ◌&&◌, ◌||◌, xor}
+use mathlib.Core.Bool.{Bool, true, false, not, ◌&&◌, ◌||◌, xor}
 use mathlib.Core.List.{List, [], ◌∷◌}
 use mathlib.Core.Path.{◌≡◌, refl, sym, ap, ap₂, ◌∙◌}
-use native.Mathlib.Nat.{lt_of_lt_of_le, lt_of_le_of_lt, zero-add, pow-suc, div-div-eq-div-mul, div-eq_of_lt}
-use native.Mathlib.Numerals.{add-one}
+use native.Mathlib.Nat.{lt_of_lt_of_le, lt_of_le_of_lt, zero-add}
 use native.Mathlib.Omega.{arith}
-use lib.Dec.{eqb, eqb-suc-zero}
+use lib.Dec.{eqb}
 use lib.ListN.{length, get_or, take, set}
 use lib.Pow.{pow_mono}
 use borrow.Author.Tests.{eq-eqb, ne_eqb}
 use Rattle.std.proofs.Common.{inl, inr}
-use Rattle.std.proofs.lemmas.Bool.{cases_eq}
-use lib.Bits.{bit_and, bit_or, bit_xor, and_step, or_step, xor_step, and_shr, or_shr, xor_shr, and_le_l, differ}
+use Rattle.std.proofs.lemmas.Bool.{cases_eq, or_right}
+use Rattle.std.proofs.lemmas.Bool.Decides.{nat_tests}
+use Rattle.std.proofs.lemmas.Nat.Bits.{bit_at_and, bit_at_or, bit_at_xor, bit_at_above, bit_at-lt, same_from_bits_below}
+use Rattle.std.specs.Int.{bit_at}
+use lib.Bits.{bit_and, bit_or, bit_xor, and_le_l}
 use lib.Count.{ones, ones_step}
 use mir.Val.{bool_byte}
 use Rattle.rules.proofs.Packing.{digit_le, packed_lt, packed_bit, packed_same}
@@ -25,24 +27,6 @@ use Rattle.rules.specs.Words.{word, bit, digit, packed, some_of, count_of, lowes
 pub byte_digit : (b : Bool) → bool_byte b ≡ digit b
 byte_digit true = refl
 byte_digit false = refl
-
--- `b as u16` is at most 1
-pub byte_small : (b : Bool) → bool_byte b ≤ 1
-byte_small true = omega arith
-byte_small false = omega arith
-
-digit_bit : (b : Bool) → eqb (digit b) 1 ≡ b
-digit_bit true = refl
-digit_bit false = refl
-
--- the lowest digit, and the rest
-low : (n i : ℕ) (f : ℕ → Bool) → packed (suc n) i f % 2 ≡ digit (f i)
-unfolding packed
-low n i f = omega (arith, digit_le (f i))
-
-rest : (n i : ℕ) (f : ℕ → Bool) → packed (suc n) i f / 2 ≡ packed n (i + 1) f
-unfolding packed
-rest n i f = omega (arith, digit_le (f i))
 
 pub packed_below : (n k i : ℕ) (f : ℕ → Bool) → n ≤ k → packed n i f < 2 ^ k
 packed_below n k i f h = lt_of_lt_of_le (packed_lt n i f) (pow_mono h)
@@ -56,84 +40,56 @@ packed_turn n left f h k =
     rw (e, j)
 
 digit_of : (d : ℕ) → d < 2 → digit (eqb d 1) ≡ d
-digit_of zero h = refl
-digit_of (suc zero) h = refl
-digit_of (suc (suc d)) h = absurd (omega arith)
+digit_of d h = grind (arith, nat_tests)
 
--- a number is the packing of its own bits
-own : (n i w : ℕ) → w / 2 ^ i < 2 ^ n → packed n i (bit w) ≡ w / 2 ^ i
-unfolding packed bit
-own zero i w h = omega arith
-own (suc n) i w h =
-    let e : w / 2 ^ (i + 1) ≡ w / 2 ^ i / 2 = rw (add-one i, pow-suc 2 i, ← div-div-eq-div-mul w (2 ^ i) 2) in
-    let m : w / 2 ^ (i + 1) < 2 ^ n = rw e (omega (arith, rw (pow-suc 2 n) at h)) in
-    let d = digit_of (w / 2 ^ i % 2) (omega arith) in
-    rw (own n (i + 1) w m, e, d) (omega arith)
+digit_at : (w k : ℕ) → digit (bit w k) ≡ bit_at w k
+unfolding bit
+digit_at w k = digit_of (bit_at w k) (bit_at-lt w k)
 
 -- a word of n digits is told by them
 pub word_is : (n w : ℕ) (f : ℕ → Bool) → w < 2 ^ n → ((k : ℕ) → k < n → bit w k ≡ f k) → w ≡ packed n 0 f
 word_is n w f h same =
-    let e : w / 2 ^ 0 ≡ w = omega arith in
-    sym (own n 0 w (omega arith) ∙ e) ∙ packed_same n 0 (bit w) f (λ k a b. same k (omega arith))
+    let p : ℕ = packed n 0 f in
+    same_from_bits_below n w p h (packed_lt n 0 f)
+    (λ k a. sym (digit_at w k) ∙ ap digit (same k a ∙ sym (packed_bit n 0 k f a ∙ ap f (zero-add k))) ∙ digit_at p k)
 
 -- ---- Bits of a bitwise operation
 
 module _ (op f : ℕ → ℕ → ℕ) (g : Bool → Bool → Bool)
-    (step : (a b : ℕ) → op a b ≡ op (a / 2) (b / 2) * 2 + f (a % 2) (b % 2))
-    (shr : (a b k : ℕ) → op a b / 2 ^ k ≡ op (a / 2 ^ k) (b / 2 ^ k))
-    (on : (x y : Bool) → f (digit x) (digit y) ≡ digit (g x y)) where
-  op_low : (x y : ℕ) → eqb (op x y % 2) 1 ≡ g (eqb (x % 2) 1) (eqb (y % 2) 1)
-  op_low x y =
-      let b : Bool = g (eqb (x % 2) 1) (eqb (y % 2) 1) in
-      let d : f (x % 2) (y % 2) ≡ digit b =
-      sym (ap₂ f (digit_of (x % 2) (omega arith)) (digit_of (y % 2) (omega arith))) ∙ on (eqb (x % 2) 1) (eqb (y % 2) 1) in
-      let e : op x y % 2 ≡ digit b = omega (arith, step x y, d, digit_le b) in
-      ap (λ (z : ℕ). eqb z 1) e ∙ digit_bit b
-
+    (at : (a b k : ℕ) → bit_at (op a b) k ≡ f (bit_at a k) (bit_at b k))
+    (on : (x y : Bool) → eqb (f (digit x) (digit y)) 1 ≡ g x y) where
   op_bit : (a b k : ℕ) → bit (op a b) k ≡ g (bit a k) (bit b k)
   unfolding bit
-  op_bit a b k = ap (λ (z : ℕ). eqb (z % 2) 1) (shr a b k) ∙ op_low (a / 2 ^ k) (b / 2 ^ k)
+  op_bit a b k =
+      ap (λ (z : ℕ). eqb z 1) (at a b k ∙ sym (ap₂ f (digit_at a k) (digit_at b k))) ∙ on (bit a k) (bit b k)
 
-and_digit : (x y : Bool) → min (digit x) (digit y) ≡ digit (x && y)
-and_digit true true = refl
-and_digit true false = refl
-and_digit false true = refl
-and_digit false false = refl
+and_digit : (x y : Bool) → eqb (min (digit x) (digit y)) 1 ≡ x && y
+and_digit x y = grind (arith, nat_tests)
 
-or_digit : (x y : Bool) → max (digit x) (digit y) ≡ digit (x || y)
-or_digit true true = refl
-or_digit true false = refl
-or_digit false true = refl
-or_digit false false = refl
+or_digit : (x y : Bool) → eqb (max (digit x) (digit y)) 1 ≡ x || y
+or_digit x y = grind (arith, nat_tests)
 
-xor_digit : (x y : Bool) → differ (digit x) (digit y) ≡ digit (xor x y)
+xor_digit : (x y : Bool) → eqb ((digit x + digit y) % 2) 1 ≡ xor x y
 unfolding xor
-xor_digit true true = refl
-xor_digit true false = refl
-xor_digit false true = refl
-xor_digit false false = refl
+xor_digit x y = grind (arith, nat_tests)
 
 pub and_bit : (a b k : ℕ) → bit (bit_and a b) k ≡ bit a k && bit b k
-and_bit = op_bit bit_and min ◌&&◌ and_step and_shr and_digit
+and_bit = op_bit bit_and min ◌&&◌ bit_at_and and_digit
 
 pub or_bit : (a b k : ℕ) → bit (bit_or a b) k ≡ bit a k || bit b k
-or_bit = op_bit bit_or max ◌||◌ or_step or_shr or_digit
+or_bit = op_bit bit_or max ◌||◌ bit_at_or or_digit
 
 pub xor_bit : (a b k : ℕ) → bit (bit_xor a b) k ≡ xor (bit a k) (bit b k)
-xor_bit = op_bit bit_xor differ xor xor_step xor_shr xor_digit
-
--- a word turned over
-xor_true : (b : Bool) → xor b true ≡ not b
-unfolding xor
-xor_true true = refl
-xor_true false = refl
+xor_bit = op_bit bit_xor (λ x y. (x + y) % 2) xor bit_at_xor xor_digit
 
 pub all_bits : (k : ℕ) → k < 16 → bit 65535 k ≡ true
 unfolding packed
 all_bits k h = packed_bit 16 0 k (λ n. true) h
 
+-- a word turned over
 pub not_bit : (w k : ℕ) → k < 16 → bit (bit_xor w 65535) k ≡ not (bit w k)
-not_bit w k h = xor_bit w 65535 k ∙ rw (all_bits k h) (xor_true (bit w k))
+unfolding xor
+not_bit w k h = xor_bit w 65535 k ∙ grind (arith, nat_tests, all_bits k h)
 
 -- a mask laid over a word
 pub and_packed : (n w : ℕ) (f : ℕ → Bool) → bit_and (packed n 0 f) w ≡ packed n 0 (λ k. f k && bit w k)
@@ -151,25 +107,20 @@ forces_packed off on w f =
 -- past its digits a word has no bit set
 pub bit_past : (w k n : ℕ) → w < 2 ^ n → n ≤ k → bit w k ≡ false
 unfolding bit
-bit_past w k n h l =
-    let e : w / 2 ^ k ≡ 0 = div-eq_of_lt (lt_of_lt_of_le h (pow_mono l)) in
-    rw e
+bit_past w k n h l = rw (bit_at_above w n k h l)
 
 -- ---- Counts and tests over the digits
 
 pub ones_packed : (n i : ℕ) (f : ℕ → Bool) → ones (packed n i f) ≡ count_of n i f
 unfolding count_of packed ones
 ones_packed zero i f = refl
-ones_packed (suc n) i f = ones_step (packed (suc n) i f) ∙ rw (low n i f, rest n i f, ones_packed n (i + 1) f)
+ones_packed (suc n) i f =
+    let low : packed (suc n) i f % 2 ≡ digit (f i) = omega (arith, digit_le (f i)) in
+    let rest : packed (suc n) i f / 2 ≡ packed n (i + 1) f = omega (arith, digit_le (f i)) in
+    ones_step (packed (suc n) i f) ∙ rw (low, rest, ones_packed n (i + 1) f)
 
 some_digit : (p : ℕ) (b : Bool) → b || not (eqb p 0) ≡ not (eqb (p * 2 + digit b) 0)
-some_digit p true =
-    let e : eqb (p * 2 + 1) 0 ≡ false = ne_eqb (p * 2 + 1) 0 (λ z. omega arith) in
-    rw e
-some_digit zero false = refl
-some_digit (suc p) false =
-    let e : eqb (suc p * 2 + 0) 0 ≡ false = ne_eqb (suc p * 2 + 0) 0 (λ z. omega arith) in
-    rw (e, eqb-suc-zero p)
+some_digit p b = grind (arith, nat_tests)
 
 pub some_packed : (n i : ℕ) (f : ℕ → Bool) → some_of n i f ≡ not (eqb (packed n i f) 0)
 unfolding some_of packed
@@ -182,10 +133,6 @@ some_none zero i f h = refl
 some_none (suc n) i f h =
     rw (h i (omega arith) (omega arith)) (some_none n (i + 1) f (λ k a b. h k (omega arith) (omega arith)))
 
-or_true : (b : Bool) → b || true ≡ true
-or_true true = refl
-or_true false = refl
-
 pub some_one : (n i k : ℕ) (f : ℕ → Bool) → k < n → f (i + k) ≡ true → some_of n i f ≡ true
 unfolding some_of
 some_one zero i k f b h = absurd (omega arith)
@@ -194,7 +141,7 @@ some_one (suc n) i zero f b h =
     rw (rw e at h)
 some_one (suc n) i (suc k) f b h =
     let e : i + suc k ≡ i + 1 + k = omega arith in
-    rw (some_one n (i + 1) k f (omega arith) (rw e at h)) (or_true (f i))
+    or_right (f i) _ (some_one n (i + 1) k f (omega arith) (rw e at h))
 
 pub any_none : (from to : ℕ) (file : List ℕ) → ((k : ℕ) → from ≤ k → k ≤ to → word file k ≡ 0) → any_word from to file ≡ false
 unfolding any_word
@@ -206,15 +153,6 @@ unfolding any_word
 any_one from to k file a b h =
     let e : from + (k - from) ≡ k = omega arith in
     some_one (to + 1 - from) from (k - from) (λ n. not (eqb (word file n) 0)) (omega arith) (rw (e, ne_eqb (word file k) 0 h))
-
--- one turn of a loop that goes from the highest number down
-pub lowest_turn : (n left : ℕ) (f : ℕ → Bool) → 0 < left → left ≤ n
-    → cond (f left) left (lowest_of (n - left) (left + 1) f) ≡ lowest_of (n - (left - 1)) (left - 1 + 1) f
-unfolding lowest_of
-lowest_turn n left f h k =
-    let e : n - (left - 1) ≡ suc (n - left) = omega arith in
-    let j : left - 1 + 1 ≡ left = omega arith in
-    rw (e, j)
 
 -- the lowest number with f, where no lower one has it; 0 where none has
 pub lowest_found : (n i k : ℕ) (f : ℕ → Bool) → i ≤ k → k < i + n → ((j : ℕ) → i ≤ j → j < k → f j ≡ false) → f k ≡ true → lowest_of n i f ≡ k

@@ -1,11 +1,12 @@
 -- What `array::from_fn` makes and chains of iterators find, in the words of the rules: tables, and tests over a range. Assumes nothing.
-use Rattle.std.proofs.Common.{ℕ, zero, suc, refl, ◌≡◌, ◌+◌, ◌≤◌, ◌<◌, Bool, true, false, cond, List, [], ◌∷◌, length, filter, get_or, add-one, sym, ◌∙◌, arith, inl, inr}
+use Rattle.std.proofs.Common.{ℕ, zero, suc, refl, ◌≡◌, ◌+◌, ◌≤◌, ◌<◌, Bool, List, [], ◌∷◌, length, filter, get_or, add-one, sym, ◌∙◌, arith, inl, inr}
 use Rattle.std.proofs.lemmas.List.{same_lists}
 use Rattle.std.proofs.lemmas.Bool.{cases_eq}
+use Rattle.std.proofs.lemmas.Bool.Decides.{nat_tests}
 use Rattle.std.specs.Array.{IsFromFnResultFrom, IsFromFnResult}
 use denote.Param.Members.{Mut, Called}
 use Rattle.std.specs.List.{list_any, list_all, range_with_len}
-use Rattle.rules.specs.Words.{digit, some_of, each_of, count_of, table}
+use Rattle.rules.specs.Words.{some_of, each_of, count_of, table}
 use Rattle.rules.proofs.Packing.{length_table, get_d_table}
 
 -- a list that has f (i + k) at each of its n places k
@@ -42,14 +43,10 @@ unfolding each_of
 each_all zero i f = refl
 each_all (suc n) i f = rw (each_all n (i + 1) f)
 
-one_more : (b : Bool) (x : ℕ) (xs : List ℕ) (m : ℕ) → length xs ≡ m → length (cond b (x ∷ xs) xs) ≡ digit b + m
-one_more true x xs m h = omega arith
-one_more false x xs m h = omega arith
-
 pub count_filter : (n i : ℕ) (f : ℕ → Bool) → length (filter f (range_with_len i n)) ≡ count_of n i f
 unfolding count_of
 count_filter zero i f = refl
-count_filter (suc n) i f = one_more (f i) i (filter f (range_with_len (i + 1) n)) (count_of n (i + 1) f) (count_filter n (i + 1) f)
+count_filter (suc n) i f = grind (arith, nat_tests, count_filter n (i + 1) f)
 
 -- the same test one number further on
 each_next : (n i : ℕ) (f g : ℕ → Bool) → ((k : ℕ) → f k ≡ g (suc k)) → each_of n i f ≡ each_of n (i + 1) g

@@ -24,17 +24,8 @@ fault_steps : (g : Configuration) (x : State) (s : Sample) → sound g s ≡ fal
 unfolding fault_change fault_answer dark_outputs step_state since_now step_answer outputs_now step_configuration
 fault_steps g x s e = (rw e, rw e, rw e)
 
-pub sound-requires : goal.sound-requires
-sound-requires c = tt
-
-pub sound_step-requires : goal.sound_step-requires
-sound_step-requires c = tt
-
 pub returns-then-sound : goal.returns-then-sound
 returns-then-sound c = rw c.sound_step.ensures (sound_steps _ _ _ (unfold sound in (sym c.sound.ensures ∙ c.if-sound.true)))
-
-pub fault_step-requires : goal.fault_step-requires
-fault_step-requires c = tt
 
 pub returns : goal.returns
 returns c = rw c.fault_step.ensures (fault_steps _ _ _ (unfold sound in (sym c.sound.ensures ∙ c.if-sound.false)))

@@ -2,12 +2,6 @@
 use Rattle.rules.specs.Card.{since_after, rule_now}
 use Rattle.engine.proofs.since_after.Goals as goal
 
-pub groups_after-gs-requires : goal.groups_after-gs-requires
-groups_after-gs-requires c = tt
-
-pub outputs_after-o-requires : goal.outputs_after-o-requires
-outputs_after-o-requires c = tt
-
 pub returns : goal.returns
 unfolding since_after rule_now
 returns c =

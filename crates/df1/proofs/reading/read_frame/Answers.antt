@@ -20,19 +20,15 @@ returns-in_default-clause-buffer c =
 pub returns-in_err-n-clause-outcome : goal.returns-in_err-n-clause-outcome
 returns-in_err-n-clause-outcome c =
     let p = err_from_is_err_and c.from_residual.result c.from_residual.ensures.1 in
-    let e = read_fit c.args.input.now c.in-Some.body.now c.in-Some.count (length c.args.out.now) c.in-Some.ensures in
-    cc (p.1, p.2, e, c.in_err-n.ensures.outcome)
+    cc (p.1, p.2, read_fit (length c.args.out.now) c.in-Some.ensures, c.in_err-n.ensures.outcome)
 
 pub returns-in_err-n-clause-buffer : goal.returns-in_err-n-clause-buffer
 unfolding read_buffer
 returns-in_err-n-clause-buffer c =
-    let input = c.args.input.now in
-    refused_leaves _ _ (data_of input) c.args.out.now (c.in_err-n.ensures.outcome ∙ read_fit input c.in-Some.body.now c.in-Some.count (length c.args.out.now) c.in-Some.ensures)
+    refused_leaves _ _ (data_of c.args.input.now) c.args.out.now (c.in_err-n.ensures.outcome ∙ read_fit (length c.args.out.now) c.in-Some.ensures)
 
 pub returns-clause-outcome : goal.returns-clause-outcome
-returns-clause-outcome c =
-    let e = read_fit c.args.input.now c.in-Some.body.now c.in-Some.count (length c.args.out.now) c.in-Some.ensures in
-    cc (e, c.in_ok-n.ensures.outcome)
+returns-clause-outcome c = c.in_ok-n.ensures.outcome ∙ read_fit (length c.args.out.now) c.in-Some.ensures
 
 pub returns-clause-buffer : goal.returns-clause-buffer
 unfolding read_buffer data_of
@@ -42,4 +38,4 @@ returns-clause-buffer c =
     let is = c.in-Some.ensures in
     c.put_data.ensures ∙ ap (λ (body : List ℕ). sets out 0 (undoubled body)) is.part
     ∙ sets_start out (data_of input) (omega (arith, is.number, c.in_ok-n.ensures.within))
-    ∙ accepted_puts _ _ (data_of input) out (c.in_ok-n.ensures.outcome ∙ read_fit input c.in-Some.body.now c.in-Some.count (length out) is)
+    ∙ accepted_puts _ _ (data_of input) out (c.in_ok-n.ensures.outcome ∙ read_fit (length out) is)

@@ -18,19 +18,15 @@ returns-then-not-is_allowed-clause-buffer c = refused_leaves _ _ (frame_of c.arg
 pub returns-in_err-n-clause-outcome : goal.returns-in_err-n-clause-outcome
 returns-in_err-n-clause-outcome c =
     let p = err_from_is_err_and c.from_residual.result c.from_residual.ensures.1 in
-    let e = write_fit c.args.bytes.now c.dle_count.result (length c.args.out.now) c.if-not-is_allowed.ensures c.dle_count.ensures in
-    cc (p.1, p.2, e, c.in_err-n.ensures.outcome)
+    cc (p.1, p.2, write_fit c.args.bytes.now (length c.args.out.now) c.if-not-is_allowed.ensures c.dle_count.ensures, c.in_err-n.ensures.outcome)
 
 pub returns-in_err-n-clause-buffer : goal.returns-in_err-n-clause-buffer
 unfolding write_buffer
 returns-in_err-n-clause-buffer c =
-    let bytes = c.args.bytes.now in
-    refused_leaves _ _ (frame_of bytes) c.args.out.now (c.in_err-n.ensures.outcome ∙ write_fit bytes c.dle_count.result (length c.args.out.now) c.if-not-is_allowed.ensures c.dle_count.ensures)
+    refused_leaves _ _ (frame_of c.args.bytes.now) c.args.out.now (c.in_err-n.ensures.outcome ∙ write_fit c.args.bytes.now (length c.args.out.now) c.if-not-is_allowed.ensures c.dle_count.ensures)
 
 pub returns-clause-outcome : goal.returns-clause-outcome
-returns-clause-outcome c =
-    let e = write_fit c.args.bytes.now c.dle_count.result (length c.args.out.now) c.if-not-is_allowed.ensures c.dle_count.ensures in
-    cc (e, c.in_ok-n.ensures.outcome)
+returns-clause-outcome c = c.in_ok-n.ensures.outcome ∙ write_fit c.args.bytes.now (length c.args.out.now) c.if-not-is_allowed.ensures c.dle_count.ensures
 
 pub returns-clause-buffer : goal.returns-clause-buffer
 unfolding write_buffer frame_of
@@ -42,4 +38,4 @@ returns-clause-buffer c =
     let e : n ≡ length (frame_of bytes) = omega (arith, is, frame_length bytes) in
     rw (c.put_doubled.ensures, c.check_byte.ensures) (frame_stored out (doubled bytes) (check_byte bytes) n is (omega (arith, c.in_ok-n.ensures.within)))
     ∙ ap (λ (k : ℕ). frame_of bytes ++ drop k out) e
-    ∙ accepted_puts _ _ (frame_of bytes) out (c.in_ok-n.ensures.outcome ∙ write_fit bytes c.dle_count.result (length out) c.if-not-is_allowed.ensures c.dle_count.ensures)
+    ∙ accepted_puts _ _ (frame_of bytes) out (c.in_ok-n.ensures.outcome ∙ write_fit bytes (length out) c.if-not-is_allowed.ensures c.dle_count.ensures)

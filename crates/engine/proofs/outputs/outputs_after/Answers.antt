@@ -15,7 +15,7 @@ use Rattle.rules.specs.Switches.{past_limits, output_rule, rule_at}
 use Rattle.rules.specs.Card.{fresh_timed, timed_now, timed_of}
 use Rattle.rules.proofs.Packing.{digit_le}
 use Rattle.word.proofs.Laws.{byte_digit, packed_below, packed_turn}
-use Rattle.engine.proofs.Lists.{down_none, down_more, down_all, length_mapped}
+use Rattle.engine.proofs.Lists.{down_none, down_more, down_all}
 use Rattle.engine.specs.declared.outputs.OutputAfter.{OutputAfter}
 use borrow.Author.Rules.{rules}
 use Rattle.engine.proofs.outputs.outputs_after.Invariants.{timed_at, on_at}
@@ -38,7 +38,7 @@ pub loop-n-init : goal.loop-n-init
 unfolding packed
 loop-n-init c =
     let a = c.args in
-    (refl, down_none 32 (timed_at a.w a.positions a.xs a.p.limits a.p.owners) a.xs (search (rules, length_mapped)))
+    (refl, down_none 32 (timed_at a.w a.positions a.xs a.p.limits a.p.owners) a.xs (search rules))
 
 pub overflow_mul-on : goal.overflow_mul-on
 overflow_mul-on c =

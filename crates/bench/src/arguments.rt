@@ -24,7 +24,8 @@ pub fn measure_of(name: u8) -> Option<Measure> {
 
 // The name, where the argument is a single byte.
 pub fn measure_name<E: Env>(env: &E) -> Option<u8> {
-    let mut name = [0];
-    let n = arg(env, 1, &mut name);
-    (n == 1).then_some(name[0])
+    match arg(env, 1, &mut [0])? {
+        [name] => Some(*name),
+        _ => None,
+    }
 }

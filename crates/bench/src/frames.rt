@@ -1,6 +1,6 @@
 // Frames from memory: written and read, and the checksum over what the buffer then holds.
 use crate::steps::plus;
-use df1::{LONGEST_FRAME, MOST_DATA};
+use df1::{LONGEST_FRAME, MOST_DATA, Refusal};
 use std::array;
 
 // The data of the first frame.
@@ -8,18 +8,16 @@ fn first_data() -> [u8; MOST_DATA] {
     array::from_fn(|k| (7 * k % 256) as u8)
 }
 
-// The number of a frame or of its data, the one counted i from 0.
-fn number(bytes: &[u8], i: u32) -> u64 {
-    let length = bytes.len();
-    if length == 0 || LONGEST_FRAME < length {
-        return 0;
-    }
-    let place = bytes[i as usize % length];
-    let last = bytes[length - 1];
-    65536 * length as u64 + 256 * u64::from(place) + u64::from(last)
+// The number of a frame or of its data, the one counted i from 0; none of one that was refused, or is empty.
+fn number(made: Result<usize, Refusal>, out: &[u8], i: u32) -> Option<u64> {
+    let bytes = out.get(..made.ok()?)?;
+    let last = bytes.last()?;
+    let place = bytes.get(i as usize % bytes.len())?;
+    let length = u16::try_from(bytes.len()).ok()?;
+    Some(65536 * u64::from(length) + 256 * u64::from(*place) + u64::from(*last))
 }
 
-// The checksum of so many frames written.
+// The checksum of so many frames written. What it shares with `frames_read` is in `number` and `plus`; of the loops only the `for` is alike.
 pub fn frames_written(count: u32) -> u32 {
     let mut bytes = first_data();
     let mut out = [0; LONGEST_FRAME];
@@ -27,8 +25,8 @@ pub fn frames_written(count: u32) -> u32 {
     for i in 0..count {
         let place = i as usize % MOST_DATA;
         bytes[place] = bytes[place].wrapping_add(1);
-        let length = df1::write_frame(&bytes, &mut out).unwrap_or(0);
-        sum = plus(sum, number(&out[..length], i));
+        let made = df1::write_frame(&bytes, &mut out);
+        sum = plus(sum, number(made, &out, i).unwrap_or(0));
     }
     sum
 }
@@ -42,8 +40,8 @@ pub fn frames_read(count: u32) -> u32 {
     for i in 0..count {
         let place = 2 + i as usize % 100;
         input.swap(place, place + 1);
-        let length = df1::read_frame(&input, &mut out).unwrap_or(0);
-        sum = plus(sum, number(&out[..length], i));
+        let made = df1::read_frame(&input, &mut out);
+        sum = plus(sum, number(made, &out, i).unwrap_or(0));
     }
     sum
 }

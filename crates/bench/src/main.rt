@@ -24,10 +24,13 @@ fn sum_of(measure: Measure, n: u32) -> u32 {
 }
 
 // The line of a measure; none where the arguments are no name and number alone. The number's text is printed as it was given.
-fn run(rt: &(impl Env + Print), text: &[u8]) -> Option<()> {
+// An argument is bytes in fixed room: it may be no UTF-8, and there is no heap.
+fn run(rt: &(impl Env + Print)) -> Option<()> {
     if is_given(rt, 3) {
         return None;
     }
+    let mut text = [0; 128];
+    let text = arg(rt, 2, &mut text)?;
     let name = measure_name(rt)?;
     let measure = measure_of(name)?;
     let text = from_utf8(text).ok()?;
@@ -39,9 +42,7 @@ fn run(rt: &(impl Env + Print), text: &[u8]) -> Option<()> {
 }
 
 fn main(rt: HostRuntime) {
-    let mut text = [0; 128];
-    let n = arg(&rt, 2, &mut text);
-    if run(&rt, &text[..n]).is_none() {
+    if run(&rt).is_none() {
         let _ = eprintln!(rt; "usage: bench a N | bench b N | bench w N | bench r N");
     }
 }

@@ -1,8 +1,9 @@
 // frame: DF1 frames for the laptop. `frame write` takes data on standard input and writes their frame to standard output, `frame read` takes a frame and writes its data.
+// The room is fixed, as there is no heap; the argument, what is read and what is made are slices of it.
 #![tactic(auto)]
 
 use df1::{Direction, LONGEST_FRAME};
-use streams::{arg, is_given, read_full, write_all};
+use streams::{arg, is_given, read_full};
 
 fn usage(rt: &impl Eprint) {
     let _ = eprintln!(rt; "usage: frame write | frame read");
@@ -15,7 +16,7 @@ fn run(rt: &(impl Input + Print + Eprint), direction: Direction) {
     let got = read_full(&mut rt.reader(), &mut input);
     match direction.call(&input[..got], &mut out) {
         Ok(n) => {
-            write_all(rt, &out[..n]);
+            let _ = rt.write_all(&out[..n]);
         }
         Err(why) => {
             let _ = eprintln!(rt; "refused {}", u16::from(why));
@@ -25,14 +26,13 @@ fn run(rt: &(impl Input + Print + Eprint), direction: Direction) {
 
 fn main(rt: HostRuntime) {
     let mut word = [0u8; 5];
-    let n = arg(&rt, 1, &mut word);
     if is_given(&rt, 2) {
         usage(&rt);
         return;
     }
-    match &word[..n] {
-        b"write" => run(&rt, Direction::Write),
-        b"read" => run(&rt, Direction::Read),
+    match arg(&rt, 1, &mut word) {
+        Some(b"write") => run(&rt, Direction::Write),
+        Some(b"read") => run(&rt, Direction::Read),
         _ => usage(&rt),
     }
 }

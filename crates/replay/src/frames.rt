@@ -26,7 +26,7 @@ fn show_call(to: &impl Print, direction: Direction, bytes: &[u8], out: &mut [u8]
     );
 }
 
-// Room for the largest lent buffer.
+// Room for the largest lent buffer. It is fixed, as there is no heap; the buffer of a call is a slice of it.
 fn buffer_space() -> [u8; 65535] {
     [0xee; 65535]
 }

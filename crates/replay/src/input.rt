@@ -5,8 +5,9 @@ use df1::Direction;
 use rules::{FileCycle, Sample};
 use std::io::{Error, Read};
 use streams::read_full;
+use trace_bytes::input::sample_at;
 
-// The list is cut short or has an unknown opcode.
+// The list is cut short or has an unknown opcode. Not the `Bad` of a trace: a list of calls is no part of one.
 #[derive(Clone, Copy)]
 pub struct Bad;
 
@@ -68,8 +69,8 @@ pub fn read_word<R: Read>(from: &mut R) -> Result<u16, Bad> {
 }
 
 // The words of so many bytes.
-fn words_of<const N: usize>(bytes: &[u8]) -> [u16; N] {
-    let mut words = [0; N];
+fn words_of(bytes: &[u8]) -> [u16; 651] {
+    let mut words = [0; 651];
     for (word, b) in words.iter_mut().zip(bytes.chunks_exact(2)) {
         *word = u16::from_le_bytes([b[0], b[1]]);
     }
@@ -80,28 +81,7 @@ fn words_of<const N: usize>(bytes: &[u8]) -> [u16; N] {
 pub fn read_sample<R: Read>(from: &mut R) -> Result<Sample, Bad> {
     let mut b = [0; 18];
     from.read_exact(&mut b)?;
-    let [
-        raw,
-        currents,
-        virtuals,
-        inputson,
-        inputsoff,
-        realon,
-        realoff,
-        virtualon,
-        virtualoff,
-    ] = words_of::<9>(&b);
-    Ok(Sample {
-        raw,
-        currents,
-        virtuals,
-        inputson,
-        inputsoff,
-        realon,
-        realoff,
-        virtualon,
-        virtualoff,
-    })
+    Ok(sample_at(&b))
 }
 
 // Reads a count and that many words to the room's start, which is the file. One of over 650 words is refused by its length alone, so the parts of a longer one

@@ -1,13 +1,14 @@
-// What the programs take and give: their arguments, a buffer filled from a reader, and bytes written whole. A read or a write that fails ends there.
+// What the programs take: their arguments, and a buffer filled from a reader. A read that fails ends there.
 #![tactic(auto)]
 
-ghost use Rattle.std.specs.Prelude.{◌≡◌, ◌≤◌};
+ghost use Rattle.std.specs.Prelude.{◌≡◌, ◌≤◌, length, IfSome};
 ghost use Rattle.streams.specs.Counts.{IsPrefixLen};
 
 use std::env::{Env, FillError};
-use std::io::{Print, Read};
+use std::io::Read;
 
 // Reads until the buffer is full, the input ends or a read fails; the number of bytes at the buffer's start that were read.
+// A `while`, as nothing is counted: it goes on by what each read gave.
 pub fn read_full<R: Read>(input: &mut R, buf: &mut [u8]) -> usize
     ensures { IsPrefixLen result buf.new }
 {
@@ -22,16 +23,13 @@ pub fn read_full<R: Read>(input: &mut R, buf: &mut [u8]) -> usize
     done
 }
 
-// Writes all the bytes; false where a write failed, and then some of them may be written.
-pub fn write_all<P: Print>(to: &P, bytes: &[u8]) -> bool {
-    to.write_all(bytes).is_ok()
-}
-
-// Puts an argument at the buffer's start; its length, 0 where it is missing or longer than the buffer. The program's own name is argument 0.
-pub fn arg<E: Env>(env: &E, i: usize, buf: &mut [u8]) -> usize
-    ensures { IsPrefixLen result buf.new }
+// An argument, at the buffer's start; none where it is missing or longer than the buffer. The program's own name is argument 0.
+// Bytes and no `str`: an argument may be no UTF-8.
+pub fn arg<'a, E: Env>(env: &E, i: usize, buf: &'a mut [u8]) -> Option<&'a [u8]>
+    ensures { IfSome result (λ text. length text.now ≤ length buf.old) }
 {
-    env.arg(i, buf).unwrap_or(0)
+    let n = env.arg(i, buf).ok()?;
+    Some(&buf[..n])
 }
 
 // The program was started with this argument.

@@ -14,7 +14,7 @@ const MASK: u16 = 17;
 
 // ---- The input table
 
-// Word 0: the status bits.
+// Word 0: the status bits. Three short functions take these two arguments; a struct of them would be no plainer.
 #[tactic(auto, unfolding(rules::specs::Bus::status_bits))]
 fn status_bits(g: Configuration, x: Shown) -> u16
     ensures { result ≡ bus.status_bits g x }
@@ -43,7 +43,7 @@ fn input_table(g: Configuration, x: Shown) -> [u16; 8]
     ]
 }
 
-// The low byte of a word at an even place, the high one at an odd.
+// The low byte of a word at an even place, the high one at an odd: by remainder and quotient, as the definition says it, and not by `to_le_bytes`.
 fn byte_of(w: u16, n: u16) -> u8
     ensures { result ≡ cond (eqb (n % 2) 0) (w % 256) (w / 256) }
 {
@@ -104,7 +104,7 @@ fn stored(b: Bus, n: u16, value: u8) -> Bus
     }
 }
 
-// A byte written: 13 for an offset over 17, first; 14 for one of the input table.
+// A byte written: 13 for an offset over 17, first; 14 for one of the input table. Offset and value come as the exported call has them.
 #[tactic(auto, unfolding(rules::specs::Bus::bus_write))]
 pub fn written(b: Bus, offset: u16, value: u8) -> Result<Bus, Refusal>
     ensures { result ≡ bus.bus_write b offset value }

@@ -1,5 +1,6 @@
 // The card's own loop: the calls on a module that a host keeps where it sits, exported for C and Rust. include/chimneyrye.h is their header. The module
-// is lent as the engine has it; each call is a call by value on what lies there, and stores what that call gives back.
+// is lent as the engine has it; each call is a call by value on what lies there, and stores what that call gives back. C has no Result: a refusal is
+// answered by its number.
 
 #![tactic(auto)]
 
@@ -8,6 +9,7 @@ ghost use Rattle.rules.specs.declared.FileCycle.TheVariants.{SetupCycle, GroupCy
 ghost use Rattle.rules.specs.Cycle.{outcome_number, outcome_of};
 ghost use Rattle.rules.specs.Bus.{byte_shown};
 ghost use Rattle.rules.specs.Card as card;
+ghost use Rattle.card.specs.Calls.{Gives};
 
 use file_cycle::file_cycle;
 use rules::{Answer, FileCycle, Module, Sample};
@@ -23,16 +25,18 @@ pub struct Byte {
 // Power-up. Returns 0, or 3 for a number that is no module's, and then the module stays as it was.
 #[unsafe(no_mangle)]
 pub extern "C" fn chimneyrye_power_up(m: &mut Module, number: u16) -> u16
-    ensures { (m.new ≡ (card.powered_up m.old number).card) × (result ≡ outcome_number (card.powered_up m.old number).outcome) }
+    ensures { Gives (card.powered_up m.old number) m.new result }
 {
     let r = Module::power_up(*m, number);
     *m = r.card;
     u16::from(r.outcome)
 }
 
-// A cycle that takes a file, on the lent module.
+// A cycle that takes a file, on the lent module. C calls it by one name for each kind; each of the contracts is the whole promise, a definition for the
+// module and one for the file.
 fn cycle_on(kind: FileCycle, m: &mut Module, file: &mut [u16]) -> u16
-    ensures { (m.new ≡ (card.file_call kind m.old file.old).card) × (result ≡ outcome_number (card.file_call kind m.old file.old).outcome) × (file.new ≡ card.file_left kind m.old file.old) }
+    ensures given { Gives (card.file_call kind m.old file.old) m.new result }
+    ensures file { file.new ≡ card.file_left kind m.old file.old }
 {
     let r = file_cycle(kind, *m, file);
     *m = r.card;
@@ -42,7 +46,8 @@ fn cycle_on(kind: FileCycle, m: &mut Module, file: &mut [u16]) -> u16
 // The setup cycle, on a lent M0 file.
 #[unsafe(no_mangle)]
 pub extern "C" fn chimneyrye_setup(m: &mut Module, file: &mut [u16]) -> u16
-    ensures { (m.new ≡ (card.file_call SetupCycle m.old file.old).card) × (result ≡ outcome_number (card.file_call SetupCycle m.old file.old).outcome) × (file.new ≡ card.file_left SetupCycle m.old file.old) }
+    ensures given { Gives (card.file_call SetupCycle m.old file.old) m.new result }
+    ensures file { file.new ≡ card.file_left SetupCycle m.old file.old }
 {
     cycle_on(FileCycle::SetupCycle, m, file)
 }
@@ -50,7 +55,8 @@ pub extern "C" fn chimneyrye_setup(m: &mut Module, file: &mut [u16]) -> u16
 // The group cycle, on a lent M0 file.
 #[unsafe(no_mangle)]
 pub extern "C" fn chimneyrye_group(m: &mut Module, file: &mut [u16]) -> u16
-    ensures { (m.new ≡ (card.file_call GroupCycle m.old file.old).card) × (result ≡ outcome_number (card.file_call GroupCycle m.old file.old).outcome) × (file.new ≡ card.file_left GroupCycle m.old file.old) }
+    ensures given { Gives (card.file_call GroupCycle m.old file.old) m.new result }
+    ensures file { file.new ≡ card.file_left GroupCycle m.old file.old }
 {
     cycle_on(FileCycle::GroupCycle, m, file)
 }
@@ -58,7 +64,8 @@ pub extern "C" fn chimneyrye_group(m: &mut Module, file: &mut [u16]) -> u16
 // The limit cycle, on a lent M1 file.
 #[unsafe(no_mangle)]
 pub extern "C" fn chimneyrye_limit(m: &mut Module, file: &mut [u16]) -> u16
-    ensures { (m.new ≡ (card.file_call LimitCycle m.old file.old).card) × (result ≡ outcome_number (card.file_call LimitCycle m.old file.old).outcome) × (file.new ≡ card.file_left LimitCycle m.old file.old) }
+    ensures given { Gives (card.file_call LimitCycle m.old file.old) m.new result }
+    ensures file { file.new ≡ card.file_left LimitCycle m.old file.old }
 {
     cycle_on(FileCycle::LimitCycle, m, file)
 }
@@ -66,7 +73,7 @@ pub extern "C" fn chimneyrye_limit(m: &mut Module, file: &mut [u16]) -> u16
 // The nudge cycle.
 #[unsafe(no_mangle)]
 pub extern "C" fn chimneyrye_nudge(m: &mut Module, word: u16) -> u16
-    ensures { (m.new ≡ (card.nudge_call m.old word).card) × (result ≡ outcome_number (card.nudge_call m.old word).outcome) }
+    ensures { Gives (card.nudge_call m.old word) m.new result }
 {
     let r = nudge::nudge_cycle(*m, word);
     *m = r.card;
@@ -104,7 +111,7 @@ pub extern "C" fn chimneyrye_read_byte(m: &Module, offset: u16) -> Byte
 #[tactic(auto, unfolding(rules::specs::Card::write_call))]
 #[unsafe(no_mangle)]
 pub extern "C" fn chimneyrye_write_byte(m: &mut Module, offset: u16, value: u8) -> u16
-    ensures { (m.new ≡ (card.write_call m.old offset value).card) × (result ≡ outcome_number (card.write_call m.old offset value).outcome) }
+    ensures { Gives (card.write_call m.old offset value) m.new result }
 {
     match bus::written(m.state.kept.bus, offset, value) {
         Ok(after) => {

@@ -50,7 +50,7 @@ struct Scan {
     sum: u8,
 }
 
-// 0 where a call was not refused, else the refusal's number.
+// 0 where a call was not refused, else the refusal's number. A function, as a `From` of a Result may stand in std alone.
 #[tactic(auto, unfolding(crate::specs::Frame::outcome_number))]
 pub fn number_of(outcome: Result<usize, Refusal>) -> u16
     ensures { result ≡ frame.outcome_number outcome }

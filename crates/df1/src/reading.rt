@@ -45,7 +45,8 @@ fn found(input: &[u8]) -> Option<(&[u8], usize)>
     }
 }
 
-// The data of a body at the buffer's start, cut at its end; the second of two DLEs is passed over.
+// The data of a body at the buffer's start, cut at its end; the second of two DLEs is passed over. The walk is that of `scan`, which counts and fails,
+// where this stores and stops at the buffer's end.
 #[tactic(auto, unfolding(crate::specs::Frame::undoubled))]
 fn put_data(out: &mut [u8], body: &[u8])
     ensures { out.new ≡ sets out.old 0 (frame.undoubled body.now) }

@@ -4,6 +4,7 @@ ghost use Rattle.std.specs.Prelude.{◌≡◌, cond};
 ghost use Rattle.rules.specs.Groups as groups;
 ghost use Rattle.rules.specs.Card as card;
 
+use counts::ScaleFactor;
 use rules::{Conditions, Event, Group, GroupPosition, GroupState, IoType, Mode};
 
 // A group after a step, the Group Position that the step leaves, and whether the group is open.
@@ -14,6 +15,7 @@ struct GroupAfter {
     pub isopen: bool,
 }
 
+// Three arrays and no array of structs: the module stores the states and the positions each by itself, and an output's rule takes positions and openness.
 #[derive(Clone, Copy)]
 pub struct GroupsAfter {
     pub states: [GroupState; 6],
@@ -48,7 +50,7 @@ fn group_after(w: Conditions, g: Group, x: GroupState, n: u16) -> GroupAfter
     ensures { (result.state ≡ card.group_now w g x n) × (result.position ≡ card.left_position w g x n) × (result.isopen ≡ card.open_now w g x n) }
 {
     let e = event(w, g, n);
-    let step = group::group_step(w.top, g, x, e);
+    let step = group::group_step(ScaleFactor { top: w.top }, g, x, e);
     let mode = Mode::from(g.mode);
     GroupAfter {
         state: step.state,

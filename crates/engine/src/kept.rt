@@ -17,7 +17,7 @@ fn requested(b: Bus, count: u16) -> Bus
     }
 }
 
-// After a step with this answer and these active real inputs.
+// After a step with this answer and these active real inputs. Not a `From` of the answer, which has no inputs.
 #[tactic(auto, unfolding(rules::specs::Card::kept_after, rules::specs::Bus::shown_by))]
 pub fn kept_after(x: Kept, a: Answer, inputs: u16) -> Kept
     ensures { result ≡ card.kept_after x a inputs }

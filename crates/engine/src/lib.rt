@@ -59,7 +59,7 @@ fn since_after(p: Programming, w: Conditions, speed: Speed, x: SinceStart) -> Si
     Since { since, on: o.on }
 }
 
-// A step that is not answered 11.
+// A step that is not answered 11. Module and sample are what a step takes, and stay two arguments in all of its functions.
 fn sound_step(m: Module, s: Sample) -> Change
     ensures { result ≡ sound_change m.configuration m.state s }
 {

@@ -6,6 +6,7 @@ ghost use Rattle.rules.specs.Groups as groups;
 ghost use Rattle.rules.specs.Switches as switches;
 ghost use Rattle.rules.specs.Card as card;
 
+use counts::ScaleFactor;
 use rules::{Anded, Conditions, GroupPosition, Limit, Position, Programming, Switch, TimedState};
 use switch::Moment;
 
@@ -31,9 +32,9 @@ impl OutputAfter {
     };
 }
 
-// What the six groups have at the number `owner`, from 1; 0 or over 6 is no group.
-fn of_group<T: Copy>(none: T, xs: [T; 6], owner: u16) -> T
-    ensures { result ≡ groups.of_group none xs owner }
+// What the six groups have at the number `owner`, from 1; 0 or over 6 is no group. The number is as the module stores it, for C.
+fn of_group<T: Copy>(none: T, xs: &[T; 6], owner: u16) -> T
+    ensures { result ≡ groups.of_group none xs.now owner }
 {
     if owner == 0 {
         return none;
@@ -55,34 +56,13 @@ fn switch_position(w: Conditions, position: GroupPosition) -> Position
 
 // What an output's switch is tested with.
 fn moment(w: Conditions, position: GroupPosition) -> Moment
-    ensures { result ≡ record { top = w.top; c = w.c; position = switches.switch_position w position } }
+    ensures { result ≡ record { sf = record { top = w.top }; c = w.c; position = switches.switch_position w position } }
 {
     Moment {
-        top: w.top,
+        sf: ScaleFactor { top: w.top },
         c: w.c,
         position: switch_position(w, position),
     }
-}
-
-// The group lets output n, from 0, on; in Independent Mode a real output's own real input does.
-#[tactic(auto, unfolding(rules::specs::Switches::admitted))]
-fn admitted(w: Conditions, isopen: bool, n: u16) -> bool
-    ensures { result ≡ switches.admitted w isopen n }
-{
-    if w.independent {
-        16 <= n || word::bit(w.real, n)
-    } else {
-        isopen
-    }
-}
-
-// What LS Enable has to say; in Independent Mode nothing.
-#[tactic(auto, unfolding(rules::specs::Switches::enable_holds))]
-fn enabled(w: Conditions, enable: bool, n: u16) -> bool
-    ensures { result ≡ switches.enable_holds w enable n }
-{
-    let inputs = if n < 16 { w.real } else { w.virtuals };
-    w.independent || !enable || word::bit(inputs, 6)
 }
 
 // The motion detector that an output is ANDed with.
@@ -97,59 +77,85 @@ fn detector_holds(w: Conditions, d: Anded) -> bool
     }
 }
 
-// The group is open, and what is ANDed holds.
-#[tactic(auto, unfolding(rules::specs::Switches::passes))]
-fn passes(w: Conditions, l: Limit, isopen: bool, n: u16) -> bool
-    ensures { result ≡ switches.passes w l isopen n }
-{
-    admitted(w, isopen, n) && enabled(w, l.enable, n) && detector_holds(w, Anded::from(l.detector))
+// Output n, from 0, in a step: its program, and its group's position and openness.
+#[derive(Clone, Copy)]
+struct Output<'a> {
+    pub limit: &'a Limit,
+    pub position: GroupPosition,
+    pub isopen: bool,
+    pub n: u16,
 }
 
-// An output whose switch is not timed; its pairs are tested only where the rest of the rule lets it on.
-#[tactic(auto, unfolding(rules::specs::Switches::output_rule))]
-fn untimed_on(w: Conditions, l: Limit, position: GroupPosition, isopen: bool, n: u16) -> bool
-    ensures { result ≡ switches.output_rule w l position isopen false n }
-{
-    passes(w, l, isopen, n) && moment(w, position).switch_holds(l, false)
-}
-
-// A timed switch after a step.
-#[tactic(auto, unfolding(rules::specs::Card::timed_now, rules::specs::Switches::timed_holds))]
-fn timed_now(w: Conditions, l: Limit, position: GroupPosition, x: TimedState) -> TimedState
-    ensures { result ≡ card.timed_now w l position x }
-{
-    let held = moment(w, position).pair_holds(l, 0);
-    switch::timed_after(Switch::from(l.action), held, x)
-}
-
-// Output n, from 0, before the forces. Of a timed switch the pair is tested once, for its state and for the output.
-fn output_after(
-    w: Conditions,
-    l: Limit,
-    position: GroupPosition,
-    isopen: bool,
-    n: u16,
-    x: TimedState,
-) -> OutputAfter
-    ensures { (result.on ≡ switches.output_rule w l position isopen (ltb 0 (card.timed_now w l position x).left) n) × (result.timed ≡ card.timed_now w l position x) }
-{
-    let s = Switch::from(l.action);
-    match s {
-        Switch::Timed(_) => {
-            let timed = timed_now(w, l, position, x);
-            OutputAfter {
-                on: (0 < timed.left) & passes(w, l, isopen, n),
-                timed,
-            }
+impl Output<'_> {
+    // The group lets the output on; in Independent Mode a real output's own real input does.
+    #[tactic(auto, unfolding(rules::specs::Switches::admitted))]
+    fn admitted(&self, w: Conditions) -> bool
+        ensures { result ≡ switches.admitted w self.now.isopen self.now.n }
+    {
+        if w.independent {
+            16 <= self.n || word::bit(w.real, self.n)
+        } else {
+            self.isopen
         }
-        Switch::Unprogrammed | Switch::Normal | Switch::Pulse(_, _) => OutputAfter {
-            on: untimed_on(w, l, position, isopen, n),
-            timed: TimedState::FRESH,
-        },
+    }
+
+    // What LS Enable has to say; in Independent Mode nothing.
+    #[tactic(auto, unfolding(rules::specs::Switches::enable_holds))]
+    fn enabled(&self, w: Conditions) -> bool
+        ensures { result ≡ switches.enable_holds w self.now.limit.now.enable self.now.n }
+    {
+        let inputs = if self.n < 16 { w.real } else { w.virtuals };
+        w.independent || !self.limit.enable || word::bit(inputs, 6)
+    }
+
+    // The group is open, and what is ANDed holds.
+    #[tactic(auto, unfolding(rules::specs::Switches::passes))]
+    fn passes(&self, w: Conditions) -> bool
+        ensures { result ≡ switches.passes w self.now.limit.now self.now.isopen self.now.n }
+    {
+        self.admitted(w) && self.enabled(w) && detector_holds(w, Anded::from(self.limit.detector))
+    }
+
+    // An output whose switch is not timed; its pairs are tested only where the rest of the rule lets it on.
+    #[tactic(auto, unfolding(rules::specs::Switches::output_rule))]
+    fn untimed_on(&self, w: Conditions) -> bool
+        ensures { result ≡ switches.output_rule w self.now.limit.now self.now.position self.now.isopen false self.now.n }
+    {
+        self.passes(w) && moment(w, self.position).switch_holds(self.limit, false)
+    }
+
+    // A timed switch after a step.
+    #[tactic(auto, unfolding(rules::specs::Card::timed_now, rules::specs::Switches::timed_holds))]
+    fn timed_now(&self, w: Conditions, x: TimedState) -> TimedState
+        ensures { result ≡ card.timed_now w self.now.limit.now self.now.position x }
+    {
+        let held = moment(w, self.position).pair_holds(self.limit, 0);
+        switch::timed_after(Switch::from(self.limit.action), held, x)
+    }
+
+    // The output before the forces. Of a timed switch the pair is tested once, for its state and for the output.
+    fn after(&self, w: Conditions, x: TimedState) -> OutputAfter
+        ensures { (result.on ≡ switches.output_rule w self.now.limit.now self.now.position self.now.isopen (ltb 0 (card.timed_now w self.now.limit.now self.now.position x).left) self.now.n) × (result.timed ≡ card.timed_now w self.now.limit.now self.now.position x) }
+    {
+        let s = Switch::from(self.limit.action);
+        match s {
+            Switch::Timed(_) => {
+                let timed = self.timed_now(w, x);
+                OutputAfter {
+                    on: (0 < timed.left) & self.passes(w),
+                    timed,
+                }
+            }
+            Switch::Unprogrammed | Switch::Normal | Switch::Pulse(_, _) => OutputAfter {
+                on: self.untimed_on(w),
+                timed: TimedState::FRESH,
+            },
+        }
     }
 }
 
-// The 32 outputs before the forces, from the highest down. Of an unprogrammed one nothing is worked out.
+// The 32 outputs before the forces, from the highest down. Of an unprogrammed one nothing is worked out. Its program, owner and timed switch are in three
+// arrays, as the module's C layout has them.
 pub fn outputs_after(
     p: Programming,
     w: Conditions,
@@ -162,14 +168,18 @@ pub fn outputs_after(
     let mut on = 0;
     let mut timed = xs;
     for n in (0..32).rev() {
-        let l = p.limits[n];
-        let a = match Switch::from(l.action) {
+        let owner = p.owners[n];
+        let limit = &p.limits[n];
+        let a = match Switch::from(limit.action) {
             Switch::Unprogrammed => OutputAfter::OFF,
             _ => {
-                let owner = p.owners[n];
-                let position = of_group(GroupPosition(0), positions, owner);
-                let isopen = of_group(false, isopen, owner);
-                output_after(w, l, position, isopen, n as u16, xs[n])
+                let output = Output {
+                    limit,
+                    position: of_group(GroupPosition(0), &positions, owner),
+                    isopen: of_group(false, &isopen, owner),
+                    n: n as u16,
+                };
+                output.after(w, xs[n])
             }
         };
         timed[n] = a.timed;

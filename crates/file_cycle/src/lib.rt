@@ -1,4 +1,5 @@
-// The programming cycle that takes a file, one for its three kinds: what each kind has of its own is a match on the kind.
+// The programming cycle that takes a file, one for its three kinds: what each kind has of its own is a match on the kind. The kinds are closed, and the
+// definitions match on them too; closures would hide which one acts.
 #![tactic(auto)]
 
 ghost use Rattle.std.specs.Prelude.{◌≡◌, cond, eqb, [], ◌∷◌, ◌++◌, map, replicate, length};
@@ -8,6 +9,7 @@ ghost use Rattle.rules.specs.Cycle as cycle;
 ghost use Rattle.rules.specs.FileCycle as rule;
 ghost use Rattle.rules.specs.Card as card;
 
+use counts::ScaleFactor;
 use cycle::{acts, finished, idle_cycle, judged, stands, turned_away, underway};
 use rules::{
     Configuration, Cycle, CycleResult, Decision, FileCycle, GroupPosition, GroupState, Model,
@@ -22,9 +24,9 @@ const CLEAR: u16 = 0;
 const IGNORED_STATUS: u16 = 0x4000;
 
 // How many status words a setup or group cycle has, and a limit cycle.
-const M0_STATUS: usize = 10;
+pub const M0_STATUS: usize = 10;
 
-const M1_STATUS: usize = 20;
+pub const M1_STATUS: usize = 20;
 
 // ---- What each kind has of its own
 
@@ -109,7 +111,11 @@ fn check(kind: FileCycle, g: Configuration, file: &[u16]) -> Failing
             errors: setup::setup_errors(file),
             number: 0,
         },
-        FileCycle::GroupCycle => groups::failing(Model::from(g.model), p.setup.top, file),
+        FileCycle::GroupCycle => groups::failing(
+            Model::from(g.model),
+            ScaleFactor { top: p.setup.top },
+            file,
+        ),
         FileCycle::LimitCycle => limits::failing(Model::from(g.model), p, file),
     }
 }
@@ -182,7 +188,7 @@ fn shown(ignored: bool, found: Failing) -> Failing
     }
 }
 
-// The words 110 to 119: the Group Positions from 112 on.
+// The words 110 to 119: the Group Positions from 112 on. A pattern names the six, as two words stand before them and two after.
 fn group_words(errors: u16, number: u16, positions: [GroupPosition; 6]) -> [u16; M0_STATUS]
     ensures { result ≡ errors ∷ number ∷ map (λ (p : GroupPosition). p.0) positions ++ (0 ∷ 0 ∷ []) }
 {
@@ -231,7 +237,7 @@ fn command(kind: FileCycle, file: &[u16]) -> u16
     word::word_at(file, command_at(kind))
 }
 
-// What the data give, where the check found `errors`: the programming that they bring, or their refusal.
+// What the data give, where the check found `errors`, the status word, 0 of a file that passes: the programming that they bring, or their refusal.
 fn data(
     kind: FileCycle,
     errors: u16,
@@ -247,7 +253,8 @@ fn data(
     }
 }
 
-// What an acting cycle does to a configuration, where its check found `errors`.
+// What an acting cycle does to a configuration, where its check found `errors`. Kind, configuration and file are no struct: `underway` makes another
+// configuration, and the file is lent to be written.
 fn file_acts(kind: FileCycle, clear: bool, errors: u16, g: Configuration, file: &[u16]) -> Decision
     ensures { errors ≡ rule.file_errors kind g file.now → result ≡ rule.file_acts kind file.now (cycle.underway (Cycle.OfFile kind) clear g) }
 {

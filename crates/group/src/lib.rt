@@ -1,12 +1,23 @@
-// One group's step in its six modes. `top` is the scale factor less one.
+// One group's step in its six modes.
 #![tactic(auto)]
 
 ghost use Rattle.std.specs.Prelude.{◌≡◌, cond, not, ◌&&◌, ◌||◌, ◌+◌};
 ghost use Rattle.rules.specs.Groups as groups;
 ghost use Rattle.rules.specs.Card as card;
+ghost use Rattle.counts.specs.Factor.{factor};
 ghost use Rattle.group.specs.Step as steps;
 
+use counts::ScaleFactor;
 use rules::{Event, Group, GroupPosition, GroupState, MachinePosition, Mode, Pair};
+
+// What a group's places in a step are worked out from.
+#[derive(Clone, Copy)]
+struct Standing {
+    pub sf: ScaleFactor,
+    pub group: Group,
+    pub mode: Mode,
+    pub machine: MachinePosition,
+}
 
 // A group under a shift: its position, and whether its dwell holds there.
 #[derive(Clone, Copy)]
@@ -17,7 +28,7 @@ struct Place {
 }
 
 // What a group meets in a step, worked out: its dwell begins, its input has an edge, the edge is taken, the dwell holds at the step's end, the step is a
-// qualifying one, and one came since the dwell began.
+// qualifying one, and one came since the dwell began. The group's state and the event stay arguments beside it: three functions take them, no two alike.
 #[derive(Clone, Copy)]
 struct Turn {
     pub begins: bool,
@@ -37,26 +48,26 @@ pub struct GroupStep {
 
 // From Machine Position to Group Position, by the group's offset or by the shift.
 #[tactic(auto, unfolding(rules::specs::Groups::group_position))]
-pub fn group_position(top: u16, by: u16, m: MachinePosition) -> GroupPosition
-    ensures { result ≡ groups.group_position (top + 1) by m }
+pub fn group_position(sf: ScaleFactor, by: u16, m: MachinePosition) -> GroupPosition
+    ensures { result ≡ groups.group_position (factor sf) by m }
 {
-    GroupPosition(counts::sum(top, m.0, by))
+    GroupPosition(sf.sum(m.0, by))
 }
 
 // The shift by which the position becomes the preset.
 #[tactic(auto, unfolding(rules::specs::Groups::preset_shift))]
-pub fn preset_shift(top: u16, preset: u16, m: MachinePosition) -> u16
-    ensures { result ≡ groups.preset_shift (top + 1) preset m }
+pub fn preset_shift(sf: ScaleFactor, preset: u16, m: MachinePosition) -> u16
+    ensures { result ≡ groups.preset_shift (factor sf) preset m }
 {
-    counts::ahead(top, m.0, preset)
+    sf.ahead(m.0, preset)
 }
 
 // The dwell holds at a Group Position.
 #[tactic(auto, unfolding(rules::specs::Groups::dwell_holds))]
-pub fn dwell_holds(top: u16, d: Pair, p: GroupPosition) -> bool
-    ensures { result ≡ groups.dwell_holds (top + 1) d p }
+pub fn dwell_holds(sf: ScaleFactor, d: Pair, p: GroupPosition) -> bool
+    ensures { result ≡ groups.dwell_holds (factor sf) d p }
 {
-    counts::holds(top, d.on, d.off, p.0)
+    sf.holds(d, p.0)
 }
 
 // Modes 1 and 2: Machine Position plus a shift, which a taken edge presets.
@@ -100,23 +111,39 @@ fn added(mode: Mode, shift: u16, offset: u16) -> u16
     offset
 }
 
-// Group Position where the shift is `shift`.
-fn position_by(top: u16, g: Group, mode: Mode, shift: u16, m: MachinePosition) -> GroupPosition
-    ensures { result ≡ steps.position_with (top + 1) g mode shift m }
-{
-    group_position(top, added(mode, shift, g.offset), m)
-}
+impl Standing {
+    // Group Position where the shift is `shift`.
+    fn position(self, shift: u16) -> GroupPosition
+        ensures { result ≡ steps.position_with (factor self.sf) self.group self.mode shift self.machine }
+    {
+        group_position(
+            self.sf,
+            added(self.mode, shift, self.group.offset),
+            self.machine,
+        )
+    }
 
-// A group's place in a mode, where the shift is `shift`; the only test of its dwell.
-#[tactic(auto, unfolding(crate::specs::Step::place_at))]
-fn place_by(top: u16, g: Group, mode: Mode, shift: u16, m: MachinePosition) -> Place
-    ensures { result ≡ steps.place_at (top + 1) g mode shift m }
-{
-    let position = position_by(top, g, mode, shift, m);
-    Place {
-        shift,
-        position,
-        holds: dwell_holds(top, g.dwell, position),
+    // The place where the shift is `shift`; the only test of the dwell.
+    #[tactic(auto, unfolding(crate::specs::Step::place_at))]
+    fn place(self, shift: u16) -> Place
+        ensures { result ≡ steps.place_at (factor self.sf) self.group self.mode shift self.machine }
+    {
+        let position = self.position(shift);
+        Place {
+            shift,
+            position,
+            holds: dwell_holds(self.sf, self.group.dwell, position),
+        }
+    }
+
+    // The place at the step's end: a taken edge sets the position to the preset, and the dwell is judged anew.
+    fn end(self, takes: bool, start: Place) -> Place
+        ensures { result ≡ cond takes (steps.place_at (factor self.sf) self.group self.mode (groups.preset_shift (factor self.sf) self.group.offset self.machine) self.machine) start }
+    {
+        if takes {
+            return self.place(preset_shift(self.sf, self.group.offset, self.machine));
+        }
+        start
     }
 }
 
@@ -127,16 +154,6 @@ fn takes(mode: Mode, x: GroupState, edge: bool, begins: bool) -> bool
     presets(mode) & edge & (!x.taken | begins | x.begun)
 }
 
-// The place at the step's end: a taken edge sets the position to the preset, and the dwell is judged anew.
-fn end_place(top: u16, g: Group, mode: Mode, m: MachinePosition, takes: bool, start: Place) -> Place
-    ensures { result ≡ cond takes (steps.place_at (top + 1) g mode (groups.preset_shift (top + 1) g.offset m) m) start }
-{
-    if takes {
-        return place_by(top, g, mode, preset_shift(top, g.offset, m), m);
-    }
-    start
-}
-
 // What a dwell's beginning ends and `sets` brings about, the beginning first.
 fn since_dwell(sets: bool, begins: bool, before: bool) -> bool
     ensures { result ≡ (sets || (not begins && before)) }
@@ -144,7 +161,7 @@ fn since_dwell(sets: bool, begins: bool, before: bool) -> bool
     sets | (!begins & before)
 }
 
-// Mode 5: a stop closes, then an edge of the First Cycle Input that counts opens.
+// Mode 5: a stop closes, then an edge of the First Cycle Input that counts opens. A rule of 01 by itself: only its form is that of `since_dwell`.
 fn stop_then_edge(opened: bool, stop: bool, counted: bool) -> bool
     ensures { result ≡ (counted || (not stop && opened)) }
 {
@@ -176,7 +193,7 @@ pub fn is_open(mode: Mode, level: bool, opened: bool) -> bool
     }
 }
 
-// Openness of Modes 2, 4 and 5 after a step.
+// Openness of Modes 2, 4 and 5 after a step: worked out for all three, as the definition has them side by side, and then chosen by the mode.
 #[tactic(auto, unfolding(crate::specs::Step::opened_after))]
 fn opened_after(mode: Mode, x: GroupState, e: Event, t: Turn) -> bool
     ensures { result ≡ steps.opened_after mode x e t }
@@ -191,15 +208,21 @@ fn opened_after(mode: Mode, x: GroupState, e: Event, t: Turn) -> bool
 
 // A group's step.
 #[tactic(auto, unfolding(crate::specs::Step::place_at, rules::specs::Card::begins_now, rules::specs::Card::position_by, rules::specs::Card::takes_now, rules::specs::Card::shift_now, rules::specs::Card::held_now, rules::specs::Card::position_now, rules::specs::Card::qualified_now, rules::specs::Card::opened_now, crate::specs::Step::opened_after, rules::specs::Card::group_after))]
-pub fn group_step(top: u16, g: Group, x: GroupState, e: Event) -> GroupStep
-    ensures { (result.state ≡ card.group_after (top + 1) g x e) × (result.position ≡ card.position_now (top + 1) g x e) }
+pub fn group_step(sf: ScaleFactor, g: Group, x: GroupState, e: Event) -> GroupStep
+    ensures { (result.state ≡ card.group_after (factor sf) g x e) × (result.position ≡ card.position_now (factor sf) g x e) }
 {
     let mode = Mode::from(g.mode);
     let edge = edge(x.level, e.level);
-    let before = place_by(top, g, mode, x.shift, e.machine);
+    let standing = Standing {
+        sf,
+        group: g,
+        mode,
+        machine: e.machine,
+    };
+    let before = standing.place(x.shift);
     let begins = before.holds & !x.held;
     let taken = takes(mode, x, edge, begins);
-    let end = end_place(top, g, mode, e.machine, taken, before);
+    let end = standing.end(taken, before);
     let qualifying = end.holds & running(e);
     let qualified = since_dwell(qualifying, begins, x.qualified);
     let turn = Turn {

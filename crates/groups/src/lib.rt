@@ -1,16 +1,19 @@
-// The group words of M0: words 110 and 111, and the programming that acceptance brings. `top` is the scale factor less one.
+// The group words of M0: words 110 and 111, and the programming that acceptance brings.
 #![tactic(auto)]
 
-ghost use Rattle.std.specs.Prelude.{◌≡◌, ◌+◌};
+ghost use Rattle.std.specs.Prelude.{◌≡◌};
 ghost use Rattle.rules.specs.GroupWords as group;
+ghost use Rattle.counts.specs.Factor.{factor};
 
+use counts::ScaleFactor;
+use group_block::Block;
 use rules::{Group, Limit, Model, Programming};
 use word::{Blocks, Failing, Layout};
 
 // The place of the command word.
 pub const COMMAND: usize = 20;
 
-// A reserved bit of the command word, or a nonzero reserved word.
+// A reserved bit of the command word, or a nonzero reserved word. What the three cycles share is in `word`; the places are this one's own.
 #[tactic(auto, unfolding(rules::specs::GroupWords::group_reserved))]
 fn group_reserved(file: &[u16]) -> bool
     ensures { result ≡ group.group_reserved file.now }
@@ -24,28 +27,28 @@ fn group_reserved(file: &[u16]) -> bool
 #[derive(Clone, Copy)]
 struct GroupBlocks<'a> {
     model: Model,
-    top: u16,
+    sf: ScaleFactor,
     file: &'a [u16],
 }
 
 impl Blocks for GroupBlocks<'_> {
-    ghost bits = { λ b n. group.group_bits b.model (b.top + 1) b.file.now n };
+    ghost bits = { λ b n. group.group_bits b.model (factor b.sf) b.file.now n };
 
     fn errors_of(&self, n: u16) -> u16 {
-        group_block::group_bits(self.model, self.top, self.file, n)
+        Block { file: self.file, n }.bits(self.model, self.sf)
     }
 }
 
 // Words 110 and 111: the lowest failing group's bits and its number, or bit 15 alone where a reserved bit or word is bad.
 #[tactic(auto, unfolding(rules::specs::GroupWords::group_errors, rules::specs::GroupWords::failing_group))]
-pub fn failing(model: Model, top: u16, file: &[u16]) -> Failing
-    ensures errors { result.errors ≡ group.group_errors model (top + 1) file.now }
-    ensures number { result.number ≡ group.failing_group model (top + 1) file.now }
+pub fn failing(model: Model, sf: ScaleFactor, file: &[u16]) -> Failing
+    ensures errors { result.errors ≡ group.group_errors model (factor sf) file.now }
+    ensures number { result.number ≡ group.failing_group model (factor sf) file.now }
 {
     if group_reserved(file) {
         return Failing::RESERVED;
     }
-    word::lowest_failing(6, &GroupBlocks { model, top, file })
+    word::lowest_failing(6, &GroupBlocks { model, sf, file })
 }
 
 // Acceptance drops limit programs.

@@ -1,19 +1,22 @@
-// One limit block of M1: its checks, the bits of word 630, and the program that it gives. `top` is the scale factor less one.
+// One limit block of M1: its checks, the bits of word 630, and the program that it gives.
 #![tactic(auto)]
 
 ghost use Rattle.std.specs.Prelude.{false, true, ◌&&◌, ◌||◌, [], ◌∷◌, ◌≡◌, ◌+◌, ◌-◌, ◌*◌, ◌<◌, leb, ltb, eqb, nat_abs, MatchOption};
 ghost use Rattle.rules.specs.Words.{word, bits, signed_word, some_of, table};
+ghost use Rattle.rules.specs.Variants.{action_with};
 ghost use Rattle.rules.specs.Switches as switches;
 ghost use Rattle.rules.specs.LimitWords as limit;
+ghost use Rattle.counts.specs.Factor.{factor};
 ghost use Rattle.limit_block.specs.Kinds.{number_of};
 
-use rules::{Action, Advance, IoType, Limit, Model, Pair};
+use counts::{ScaleFactor, used_pair};
+use rules::{Action, Advance, Anded, IoType, Limit, Model, Pair, Switch};
 use std::array;
 use switch::Train;
 use word::Layout;
 
 // The words of a block.
-const WORDS: usize = 19;
+pub const WORDS: usize = 19;
 
 // The bit of a control word that is ANDing with LS Enable.
 const ENABLE: u16 = 15;
@@ -64,11 +67,11 @@ fn detector(control: u16) -> u16
 }
 
 // Bit 1, control: detector or type 3, or another bit set.
-#[tactic(auto, unfolding(rules::specs::LimitWords::control_bad))]
+#[tactic(auto, unfolding(rules::specs::LimitWords::control_bad, rules::specs::Variants::anded_of))]
 fn control_bad(w: u16) -> bool
     ensures { result ≡ limit.control_bad w }
 {
-    detector(w) == 3
+    matches!(Anded::from(detector(w)), Anded::Never)
         || matches!(Kind::from(w), Kind::Undefined)
         || word::other_bit(w, Layout::LimitControl)
 }
@@ -99,11 +102,11 @@ fn some_touch(t: Train) -> bool
 
 // Two pulses touch, the first one after the last, round the turn, too.
 #[tactic(auto, unfolding(rules::specs::LimitWords::pulses_touch))]
-pub fn pulses_touch(top: u16, t: Train) -> bool
-    ensures { result ≡ limit.pulses_touch (top + 1) t.length t.quantity t.count }
+pub fn pulses_touch(sf: ScaleFactor, t: Train) -> bool
+    ensures { result ≡ limit.pulses_touch (factor sf) t.length t.quantity t.count }
 {
     let last = t.start(t.quantity.saturating_sub(1));
-    some_touch(t) || u64::from(top) < u64::from(last) + u64::from(t.count)
+    some_touch(t) || u64::from(sf.top) < u64::from(last) + u64::from(t.count)
 }
 
 // Bit 4 of a timed switch: the fifth of its kind, or its duration.
@@ -164,28 +167,27 @@ impl Block {
     }
 
     // Some of the eight pairs of a normal switch is bad.
-    fn some_pair_bad(self, top: u16) -> bool
-        ensures { result ≡ some_of 8 0 (limit.block_pair_bad (top + 1) self.words) }
+    fn some_pair_bad(self, sf: ScaleFactor) -> bool
+        ensures { result ≡ some_of 8 0 (limit.block_pair_bad (factor sf) self.words) }
     {
-        (0..8).any(|k| self.pair_bad(top, k))
+        (0..8).any(|k| self.pair_bad(sf, k))
     }
 
     #[tactic(auto, unfolding(rules::specs::LimitWords::block_pair_bad))]
-    fn pair_bad(self, top: u16, k: u16) -> bool
-        ensures { result ≡ limit.block_pair_bad (top + 1) self.words k }
+    fn pair_bad(self, sf: ScaleFactor, k: u16) -> bool
+        ensures { result ≡ limit.block_pair_bad (factor sf) self.words k }
     {
-        let Pair { on, off } = self.pair(k);
-        counts::pair_bad(top, on, off)
+        sf.pair_bad(self.pair(k))
     }
 
     // Bit 3, setpoint: of a normal switch any of the eight pairs, of the others the first.
     #[tactic(auto, unfolding(rules::specs::LimitWords::setpoint_bad))]
-    fn setpoint_bad(self, top: u16) -> bool
-        ensures { result ≡ limit.setpoint_bad (top + 1) self.words }
+    fn setpoint_bad(self, sf: ScaleFactor) -> bool
+        ensures { result ≡ limit.setpoint_bad (factor sf) self.words }
     {
         match self.kind() {
-            Kind::Normal => self.some_pair_bad(top),
-            Kind::Pulse | Kind::Timed | Kind::Undefined => self.pair_bad(top, 0),
+            Kind::Normal => self.some_pair_bad(sf),
+            Kind::Pulse | Kind::Timed | Kind::Undefined => self.pair_bad(sf, 0),
         }
     }
 
@@ -193,15 +195,15 @@ impl Block {
     fn is_used(self) -> bool
         ensures { result ≡ limit.block_used self.words }
     {
-        counts::used_pair(self.words[3], self.words[4])
+        used_pair(self.pair(0))
     }
 
     // The train of a pulse switch.
-    fn train(self, top: u16) -> Train
-        ensures { result ≡ record { length = limit.block_length (top + 1) self.words; quantity = word self.words 5; count = word self.words 6 } }
+    fn train(self, sf: ScaleFactor) -> Train
+        ensures { result ≡ record { length = limit.block_length (factor sf) self.words; quantity = word self.words 5; count = word self.words 6 } }
     {
         Train {
-            length: counts::ahead(top, self.words[3], self.words[4]),
+            length: sf.ahead(self.words[3], self.words[4]),
             quantity: self.words[5],
             count: self.words[6],
         }
@@ -209,11 +211,11 @@ impl Block {
 
     // Bit 4, where bit 3 is `bit3`: the length of a train, a timed switch's duration or number.
     #[tactic(auto, unfolding(rules::specs::LimitWords::length_bad))]
-    fn length_bad(self, top: u16, fifth: bool, bit3: bool) -> bool
-        ensures { result ≡ limit.length_bad (top + 1) fifth bit3 self.words }
+    fn length_bad(self, sf: ScaleFactor, fifth: bool, bit3: bool) -> bool
+        ensures { result ≡ limit.length_bad (factor sf) fifth bit3 self.words }
     {
         match self.kind() {
-            Kind::Pulse => self.is_used() && pulse_bad(bit3, self.train(top)),
+            Kind::Pulse => self.is_used() && pulse_bad(bit3, self.train(sf)),
             Kind::Timed => duration_bad(fifth, self.is_used(), self.words[5]),
             Kind::Normal | Kind::Undefined => false,
         }
@@ -221,33 +223,33 @@ impl Block {
 
     // Bit 5, two pulses touch, tested where bits 3 and 4 are clear.
     #[tactic(auto, unfolding(rules::specs::LimitWords::touch_bad))]
-    fn touch_bad(self, top: u16, bit3: bool, bit4: bool) -> bool
-        ensures { result ≡ limit.touch_bad (top + 1) bit3 bit4 self.words }
+    fn touch_bad(self, sf: ScaleFactor, bit3: bool, bit4: bool) -> bool
+        ensures { result ≡ limit.touch_bad (factor sf) bit3 bit4 self.words }
     {
         match self.kind() {
-            Kind::Pulse => !(bit3 || bit4) && self.is_used() && pulses_touch(top, self.train(top)),
+            Kind::Pulse => !(bit3 || bit4) && self.is_used() && pulses_touch(sf, self.train(sf)),
             Kind::Normal | Kind::Timed | Kind::Undefined => false,
         }
     }
 
     // Bits 1 to 5 of word 630; of type 3 only 1 and 2 are tested. `fifth` says that the output is at least the fifth timed of its kind.
-    pub fn bits(self, top: u16, fifth: bool) -> u16
-        ensures { result ≡ limit.block_bits (top + 1) fifth self.words }
+    pub fn bits(self, sf: ScaleFactor, fifth: bool) -> u16
+        ensures { result ≡ limit.block_bits (factor sf) fifth self.words }
     {
         let bit1 = control_bad(self.words[0]);
         let bit2 = self.advances_bad();
         if self.is(Kind::Undefined) {
             return word::bits(false, bit1, bit2, false, false, false);
         }
-        let bit3 = self.setpoint_bad(top);
-        let bit4 = self.length_bad(top, fifth, bit3);
-        let bit5 = self.touch_bad(top, bit3, bit4);
+        let bit3 = self.setpoint_bad(sf);
+        let bit4 = self.length_bad(sf, fifth, bit3);
+        let bit5 = self.touch_bad(sf, bit3, bit4);
         word::bits(false, bit1, bit2, bit3, bit4, bit5)
     }
 }
 
 // The place of limit block n.
-fn block_start(n: u16) -> usize
+pub fn block_start(n: u16) -> usize
     ensures { result ≡ limit.block_at n }
 {
     (WORDS * n as usize).saturating_sub(17)
@@ -283,7 +285,7 @@ fn present(m: Model, n: u16) -> bool
     }
 }
 
-// An advance word: two's complement, in tenths of a millisecond.
+// An advance word: two's complement, in tenths of a millisecond. Not a `From`, as neither type is this crate's.
 #[tactic(auto, unfolding(rules::specs::Words::signed_word))]
 fn advance_of(w: u16) -> Advance
     ensures { result ≡ limit.advance_of w }
@@ -312,26 +314,16 @@ impl Block {
         }
     }
 
-    // The type of the switch, with what figure 5.9 puts after the pair.
+    // The switch, with what figure 5.9 puts after the pair. It and the program below are made of words at their places: a `From` would be no plainer.
     #[tactic(auto, unfolding(rules::specs::LimitWords::action_of))]
-    fn action(self) -> Action
-        ensures { result ≡ limit.action_of self.words }
+    fn switch(self) -> Switch
+        ensures { action_with result ≡ limit.action_of self.words }
     {
-        let none = Action::UNPROGRAMMED;
         match self.kind() {
-            Kind::Normal => Action { kind: 1, ..none },
-            Kind::Pulse => Action {
-                kind: 2,
-                quantity: self.words[5],
-                count: self.words[6],
-                ..none
-            },
-            Kind::Timed => Action {
-                kind: 3,
-                duration: self.words[5],
-                ..none
-            },
-            Kind::Undefined => none,
+            Kind::Normal => Switch::Normal,
+            Kind::Pulse => Switch::Pulse(self.words[5], self.words[6]),
+            Kind::Timed => Switch::Timed(self.words[5]),
+            Kind::Undefined => Switch::Unprogrammed,
         }
     }
 
@@ -354,7 +346,7 @@ impl Block {
     {
         let control = self.words[0];
         Limit {
-            action: self.action(),
+            action: Action::from(self.switch()),
             enable: word::bit(control, ENABLE),
             detector: detector(control),
             onadvance: advance_of(self.words[1]),

@@ -5,6 +5,7 @@ ghost use Rattle.std.specs.Prelude.{◌≡◌, not, eqb};
 ghost use Rattle.rules.specs.Words.{table, lowest_of};
 ghost use Rattle.rules.specs.LimitWords as limit;
 
+use counts::ScaleFactor;
 use limit_block::Block;
 use rules::{Limit, Model, Programming};
 use std::array;
@@ -13,7 +14,7 @@ use word::{Blocks, Failing, Layout};
 // The place of the command word.
 pub const COMMAND: usize = 0;
 
-// A reserved bit of the command word, or a nonzero reserved word.
+// A reserved bit of the command word, or a nonzero reserved word. What the three cycles share is in `word`; the places are this one's own.
 #[tactic(auto, unfolding(rules::specs::LimitWords::limit_reserved))]
 fn limit_reserved(file: &[u16]) -> bool
     ensures { result ≡ limit.limit_reserved file.now }
@@ -40,7 +41,10 @@ fn limit_bits(m: Model, p: &Programming, file: &[u16], n: u16) -> u16
     match Block::read(m, file, n) {
         None => 0,
         Some(_) if unassigned(p, n) => 1,
-        Some(block) => block.bits(p.setup.top, limit_block::fifth_timed(file, n)),
+        Some(block) => block.bits(
+            ScaleFactor { top: p.setup.top },
+            limit_block::fifth_timed(file, n),
+        ),
     }
 }
 

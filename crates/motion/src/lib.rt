@@ -6,7 +6,9 @@ ghost use Rattle.rules.specs.Words as words;
 ghost use Rattle.rules.specs.Variants as variants;
 ghost use Rattle.rules.specs.Motion as motion;
 ghost use Rattle.rules.specs.Card as card;
+ghost use Rattle.counts.specs.Factor.{factor};
 
+use counts::ScaleFactor;
 use rules::{
     Conditions, DecimalCode, Detector, IoType, Last, MachinePosition, Model, Sample, Scalars,
     Setup, Speed, Window,
@@ -58,10 +60,10 @@ pub fn turned(reversed: bool, raw: u16) -> u16
 
 // The scaled position.
 #[tactic(auto, unfolding(rules::specs::Motion::scaled_position))]
-pub fn scaled_position(top: u16, q: u16) -> u32
-    ensures { result ≡ motion.scaled_position (top + 1) q }
+pub fn scaled_position(sf: ScaleFactor, q: u16) -> u32
+    ensures { result ≡ motion.scaled_position (factor sf) q }
 {
-    q as u32 * (top as u32 + 1) / 1024
+    q as u32 * sf.whole() / 1024
 }
 
 // Machine Position.
@@ -69,8 +71,9 @@ pub fn scaled_position(top: u16, q: u16) -> u32
 pub fn machine_position(u: Setup, raw: u16) -> MachinePosition
     ensures { result ≡ motion.machine_position u raw }
 {
-    let p = scaled_position(u.top, turned(u.reversed, raw));
-    MachinePosition(((p + u.offset as u32) % (u.top as u32 + 1)) as u16)
+    let sf = ScaleFactor { top: u.top };
+    let p = scaled_position(sf, turned(u.reversed, raw));
+    MachinePosition(((p + u.offset as u32) % sf.whole()) as u16)
 }
 
 // Movement, with 512 added.
@@ -95,7 +98,7 @@ pub fn window_steps(fast: bool) -> u16
     2520
 }
 
-// The step that comes is the window's last.
+// The step that comes is the window's last. The size comes beside the window: it goes with TResp, and is no part of the window's C layout.
 pub fn updates(size: u16, w: Window) -> bool
     ensures { result ≡ card.updates size w }
 {

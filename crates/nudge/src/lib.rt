@@ -1,4 +1,4 @@
-// The nudge: one count up or down on the setpoints of one pair in force. `top` is the scale factor less one.
+// The nudge: one count up or down on the setpoints of one pair in force.
 #![tactic(auto)]
 
 ghost use Rattle.std.specs.Prelude.{◌≡◌, true, false, ◌&&◌, ◌+◌, ◌<◌, MatchOption};
@@ -7,12 +7,14 @@ ghost use Rattle.rules.specs.Motion.{scale_factor};
 ghost use Rattle.rules.specs.Switches as switches;
 ghost use Rattle.rules.specs.Nudge as nudge;
 ghost use Rattle.rules.specs.Card as card;
+ghost use Rattle.counts.specs.Factor.{factor};
 
+use counts::{ScaleFactor, used_pair};
 use cycle::{
     accepted_cycle, acts, finished, idle_cycle, ignored_cycle, refused_cycle, stands, underway,
 };
 use rules::{
-    Configuration, Cycle, CycleResult, Decision, Limit, Module, Programming, Refusal, Switch,
+    Configuration, Cycle, CycleResult, Decision, Limit, Module, Pair, Programming, Refusal, Switch,
 };
 use switch::Train;
 
@@ -43,17 +45,17 @@ fn pair_missing(s: Switch, k: usize) -> bool
 }
 
 // The limit checks that a pulse switch can fail by a nudge.
-fn fails(top: u16, s: Switch, on: u16, off: u16) -> bool
-    ensures { result ≡ nudge.nudge_fails (top + 1) s on off }
+fn fails(sf: ScaleFactor, s: Switch, pair: Pair) -> bool
+    ensures { result ≡ nudge.nudge_fails (factor sf) s pair.on pair.off }
 {
     match s {
         Switch::Pulse(quantity, count) => {
             let train = Train {
-                length: counts::ahead(top, on, off),
+                length: sf.ahead(pair.on, pair.off),
                 quantity,
                 count,
             };
-            limit_block::pulse_bad(false, train) || limit_block::pulses_touch(top, train)
+            limit_block::pulse_bad(false, train) || limit_block::pulses_touch(sf, train)
         }
         Switch::Unprogrammed | Switch::Normal | Switch::Timed(_) => false,
     }
@@ -61,10 +63,10 @@ fn fails(top: u16, s: Switch, on: u16, off: u16) -> bool
 
 // The nudged pair is 0/0, out of range or fails the limit checks.
 #[tactic(auto, unfolding(rules::specs::Nudge::result_bad))]
-fn result_bad(top: u16, s: Switch, on: u16, off: u16) -> bool
-    ensures { result ≡ nudge.result_bad (top + 1) s on off }
+fn result_bad(sf: ScaleFactor, s: Switch, pair: Pair) -> bool
+    ensures { result ≡ nudge.result_bad (factor sf) s pair.on pair.off }
 {
-    !counts::used_pair(on, off) || counts::pair_bad(top, on, off) || fails(top, s, on, off)
+    !used_pair(pair) || sf.pair_bad(pair) || fails(sf, s, pair)
 }
 
 impl Nudge {
@@ -101,16 +103,16 @@ impl Nudge {
 
     // A setpoint one count up or down where bit n chooses it; none that leaves 0 to SF − 1.
     #[tactic(auto, unfolding(rules::specs::Nudge::nudged_to, rules::specs::Nudge::leaves_range))]
-    fn setpoint(self, top: u16, n: u16, x: u16) -> Option<u16>
+    fn setpoint(self, sf: ScaleFactor, n: u16, x: u16) -> Option<u16>
         ensures { MatchOption result
-            ((bit self.word n && nudge.leaves_range (top + 1) (bit self.word nudge.down_bit) x) ≡ true)
-            (λ y. ((bit self.word n && nudge.leaves_range (top + 1) (bit self.word nudge.down_bit) x) ≡ false) × (y ≡ nudge.nudged_if (bit self.word n) (bit self.word nudge.down_bit) x)) }
+            ((bit self.word n && nudge.leaves_range (factor sf) (bit self.word nudge.down_bit) x) ≡ true)
+            (λ y. ((bit self.word n && nudge.leaves_range (factor sf) (bit self.word nudge.down_bit) x) ≡ false) × (y ≡ nudge.nudged_if (bit self.word n) (bit self.word nudge.down_bit) x)) }
     {
         if !self.has(n) {
             Some(x)
         } else if self.has(DOWN) {
             x.checked_sub(1)
-        } else if x < top {
+        } else if x < sf.top {
             Some(x + 1)
         } else {
             None
@@ -118,21 +120,23 @@ impl Nudge {
     }
 
     // The switch with its pair nudged; none where refusal 10 comes.
-    fn limit(self, top: u16, l: Limit) -> Option<Limit>
+    fn limit(self, sf: ScaleFactor, l: Limit) -> Option<Limit>
         ensures { MatchOption result
-            (nudge.nudge_setpoint_bad (top + 1) l (nudge.nudge_pair self.word) self.word ≡ true)
-            (λ n. (nudge.nudge_setpoint_bad (top + 1) l (nudge.nudge_pair self.word) self.word ≡ false) × (n ≡ nudge.nudged_limit l self.word)) }
+            (nudge.nudge_setpoint_bad (factor sf) l (nudge.nudge_pair self.word) self.word ≡ true)
+            (λ n. (nudge.nudge_setpoint_bad (factor sf) l (nudge.nudge_pair self.word) self.word ≡ false) × (n ≡ nudge.nudged_limit l self.word)) }
     {
         let i = 2 * self.pair();
         let mut setpoints = l.setpoints;
-        let on = setpoints[i];
-        let off = setpoints[i + 1];
-        if !counts::used_pair(on, off) {
+        let pair = Pair {
+            on: setpoints[i],
+            off: setpoints[i + 1],
+        };
+        if !used_pair(pair) {
             return None;
         }
-        let on = self.setpoint(top, ON, on)?;
-        let off = self.setpoint(top, OFF, off)?;
-        if result_bad(top, Switch::from(l.action), on, off) {
+        let on = self.setpoint(sf, ON, pair.on)?;
+        let off = self.setpoint(sf, OFF, pair.off)?;
+        if result_bad(sf, Switch::from(l.action), Pair { on, off }) {
             return None;
         }
         setpoints[i] = on;
@@ -149,7 +153,7 @@ impl Nudge {
     {
         let mut limits = p.limits;
         let i = self.output();
-        limits[i] = self.limit(p.setup.top, limits[i])?;
+        limits[i] = self.limit(ScaleFactor { top: p.setup.top }, limits[i])?;
         Some(Programming { limits, ..p })
     }
 

@@ -8,11 +8,6 @@ ghost use Rattle.reader.specs.Block.{is_group};
 
 use rules::{Module, Refusal};
 
-// The words of a group's block, and of an output's.
-const GROUP_WORDS: usize = 4;
-
-const OUTPUT_WORDS: usize = 19;
-
 // Whose block is read.
 #[derive(Clone, Copy, Debug, PartialEq, Eq)]
 pub enum BlockOf {
@@ -49,19 +44,20 @@ fn block<'a>(m0: &'a [u16], m1: &'a [u16], of: BlockOf, n: u16) -> Result<&'a [u
     }
     match of {
         BlockOf::Group => {
-            let at = 18 + GROUP_WORDS * n as usize;
-            let end = at + GROUP_WORDS;
+            let at = group_block::block_start(n);
+            let end = at + group_block::WORDS;
             Ok(&m0[at..end])
         }
         BlockOf::Output => {
-            let at = OUTPUT_WORDS * n as usize - 17;
-            let end = at + OUTPUT_WORDS;
+            let at = limit_block::block_start(n);
+            let end = at + limit_block::WORDS;
             Ok(&m1[at..end])
         }
     }
 }
 
-// The part is empty on refusal; the refusal number goes to a lent number, 0 if none.
+// The part is empty on refusal; the refusal number goes to a lent number, 0 if none. 01 names this form, a part of one of two lent files; `block` is
+// the same as a Result.
 pub fn read_block<'a>(
     m0: &'a [u16],
     m1: &'a [u16],

@@ -75,6 +75,7 @@ impl Replay {
         Ok(())
     }
 
+    // Whose block, by the list's number: a `From` would have to stand in `reader`, which knows of no list.
     fn block(&mut self) -> Result<(), Bad> {
         let of = match read_word(&mut self.from)? {
             0 => BlockOf::Group,

@@ -93,6 +93,13 @@ switch_of a =
     (cond (eqb a.kind 2) (Pulse a.quantity a.count)
     (cond (eqb a.kind 3) (Timed a.duration) Unprogrammed))
 
+-- a switch as it is stored
+abbrev pub action_with : Switch → Action
+action_with Unprogrammed = record { kind = 0; quantity = 0; count = 0; duration = 0 }
+action_with Normal = record { kind = 1; quantity = 0; count = 0; duration = 0 }
+action_with (Pulse q k) = record { kind = 2; quantity = q; count = k; duration = 0 }
+action_with (Timed t) = record { kind = 3; quantity = 0; count = 0; duration = t }
+
 abbrev pub limit_switch : Limit → Switch
 limit_switch l = switch_of l.action
 

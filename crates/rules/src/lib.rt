@@ -1,6 +1,7 @@
 // The card's types: its programming, its state, what a step takes and what the calls answer. What the module stores is plain numbers, so that a host
 // lends it as it stands; `variants` reads them as cases. Every value of every type is harmless: no call has a `requires`. The rules over them are in
-// specs/; the only code here is that, the numbers of refusals, and power-up.
+// specs/; the only code here is that, the numbers of refusals, and power-up. The structs of repr(C) are as card/include/chimneyrye.h declares them:
+// numbers for kinds and for none, a flag beside its value, arrays side by side. An enum or an Option has no layout that C can declare.
 #![tactic(auto)]
 
 mod numbers;
@@ -16,7 +17,7 @@ ghost use Rattle.rules.specs.Card.{module_start};
 #[derive(Clone, Copy, Debug, PartialEq, Eq)]
 pub struct MachinePosition(pub u16);
 
-// Group Position, in counts of a turn.
+// Group Position, in counts of a turn. A type of its own: 01 names two positions, and neither may stand for the other.
 #[repr(C)]
 #[derive(Clone, Copy, Debug, PartialEq, Eq)]
 pub struct GroupPosition(pub u16);
@@ -159,7 +160,7 @@ pub struct Advance {
 }
 
 // A limit switch's program: `enable` is ANDing with LS Enable, `detector` the number of the motion detector, 0 for neither; setpoints are ON 1, OFF 1,
-// ON 2, OFF 2 and so on.
+// ON 2, OFF 2 and so on, sixteen numbers and no pairs, as the header declares them.
 #[repr(C)]
 #[derive(Clone, Copy)]
 pub struct Limit {
@@ -396,6 +397,7 @@ pub enum Refusal {
     ReadOnlyByte,
 }
 
+// Three outcomes, as 01 has them; a Result over an enum of Idle and Accepted would say the same in two types.
 #[derive(Clone, Copy, Debug, PartialEq, Eq)]
 pub enum Outcome {
     Idle,
@@ -403,7 +405,8 @@ pub enum Outcome {
     Refused(Refusal),
 }
 
-// A configuration after a programming cycle, with what the cycle answers.
+// A configuration after a programming cycle, with what the cycle answers. Not one generic type with `CycleResult` and `StepResult`: the definitions
+// cite the fields of each by name.
 #[derive(Clone, Copy)]
 pub struct Decision {
     pub configuration: Configuration,

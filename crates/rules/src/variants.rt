@@ -102,6 +102,29 @@ impl From<Action> for Switch {
     }
 }
 
+impl From<Switch> for Action {
+    ghost from_gives = { λ s r. r ≡ variants.action_with s };
+
+    fn from(s: Switch) -> Action {
+        let none = Action::UNPROGRAMMED;
+        match s {
+            Switch::Unprogrammed => none,
+            Switch::Normal => Action { kind: 1, ..none },
+            Switch::Pulse(quantity, count) => Action {
+                kind: 2,
+                quantity,
+                count,
+                ..none
+            },
+            Switch::Timed(duration) => Action {
+                kind: 3,
+                duration,
+                ..none
+            },
+        }
+    }
+}
+
 impl From<u16> for Anded {
     ghost from_gives = { λ n r. r ≡ variants.anded_of n };
 

@@ -5,6 +5,7 @@ ghost use Rattle.std.specs.Prelude.{◌≡◌, ◌-◌, leb};
 ghost use Rattle.rules.specs.Words.{word, bit};
 ghost use Rattle.rules.specs.SetupWords as setup;
 
+use counts::ScaleFactor;
 use rules::{Detector, Programming, Scalars, Setup};
 use word::Layout;
 
@@ -48,7 +49,7 @@ fn sf_judged(sf: u16) -> u16
 fn detector_bad(d: Detector) -> bool
     ensures { result ≡ setup.detector_bad d.low d.high }
 {
-    32767 < d.low || 32767 < d.high || (d.low == d.high && d.low != 0)
+    counts::setpoints_bad(32767, d.low, d.high)
 }
 
 // TSErr: a scalar outside its range.
@@ -59,7 +60,7 @@ fn scalars_bad(multiplier: u16, divisor: u16, code: u16) -> bool
     1100 < multiplier || !(1..=63).contains(&divisor) || 3 < code
 }
 
-// A reserved bit of the command word, or a nonzero reserved word.
+// A reserved bit of the command word, or a nonzero reserved word. What the three cycles share is in `word`; the places are this one's own.
 #[tactic(auto, unfolding(rules::specs::SetupWords::setup_reserved))]
 fn setup_reserved(file: &[u16]) -> bool
     ensures { result ≡ setup.setup_reserved file.now }
@@ -132,9 +133,9 @@ fn preset_offset(sf: u16, reversed: bool, preset: u16, raw: u16) -> u16
     if sf == 0 {
         return preset;
     }
-    let top = sf - 1;
-    let n = top as u32 + 1;
-    let p = motion::scaled_position(top, motion::turned(reversed, raw));
+    let scale = ScaleFactor { top: sf - 1 };
+    let n = scale.whole();
+    let p = motion::scaled_position(scale, motion::turned(reversed, raw));
     ((preset as u32 + (n - p % n)) % n) as u16
 }
 
@@ -181,7 +182,7 @@ fn scalars_of(file: &[u16]) -> Scalars
     }
 }
 
-// The setup that a file's words give, where the last raw is `raw`.
+// The setup that a file's words give, where the last raw is `raw`. Not a `From`: it is made of both.
 #[tactic(auto, unfolding(rules::specs::SetupWords::setup_of))]
 pub fn setup_of(file: &[u16], raw: u16) -> Setup
     ensures { result ≡ setup.setup_of file.now raw }

@@ -1,4 +1,3 @@
-pub mod Ranges
 pub mod Advance
 pub mod Pairs
 pub mod Pulses

@@ -1,6 +1,6 @@
 -- A switch's pairs by the position taken back and the spread of the displacements: what the loop over pairs tests is the rule.
 -- Assumes nothing.
-use Prim.Native.Nat.{ℕ, suc, ◌+◌, ◌-◌, ◌≤◌, ◌<◌}
+use Prim.Native.Nat.{ℕ, zero, suc, ◌+◌, ◌-◌, ◌≤◌, ◌<◌}
 use mathlib.Core.Bool.{Bool, true, false, cond, ◌&&◌}
 use mathlib.Core.Path.{◌≡◌, refl, sym, ap, ◌∙◌}
 use native.Mathlib.Omega.{arith}
@@ -10,13 +10,18 @@ use lib.IntN.{ℤ, pos, negsuc, neg_ℤ, sub_ℕ, ◌+ℤ◌, ◌-ℤ◌, +ℤ_a
 use lib.Signed.{lt_z}
 use Rattle.rules.specs.declared.Limit.{Limit}
 use Rattle.rules.specs.declared.Position.{Position}
+use Rattle.rules.specs.Words.{some_of}
 use Rattle.rules.specs.Counts.{ahead}
 use Rattle.rules.specs.Switches.{advance_value, count_at, on_setpoint, off_setpoint, on_shift, off_shift, pair_length, pair_holds, normal_holds}
 use Rattle.rules.proofs.Laws.{ahead_below}
 use Rattle.rules.proofs.Congruence.{ahead_of_moved}
 use Rattle.rules.proofs.Lengths.{used, pair_signed}
 use Rattle.switch.specs.Parts.{taken_back, spread_of, pair_at, pair_of, some_pair}
-use Rattle.switch.proofs.Ranges.{some_same}
+
+some_same : (n i : ℕ) (f g : ℕ → Bool) → ((k : ℕ) → f k ≡ g k) → some_of n i f ≡ some_of n i g
+unfolding some_of
+some_same zero i f g h = refl
+some_same (suc n) i f g h = rw (h i, some_same n (i + 1) f g h)
 
 -- two tests that say the same
 agree : (a b c d : ℕ) → (a < b → c < d) → (b ≤ a → d ≤ c) → ltb a b ≡ ltb c d

@@ -1,36 +1,45 @@
-// Limit switches: a pair at a position, advances, normal, pulse and timed switches. `top` is the scale factor less one.
+// Limit switches: a pair at a position, advances, normal, pulse and timed switches.
 #![tactic(auto)]
 
-ghost use Rattle.std.specs.Prelude.{false, ◌≡◌, ◌+◌, ◌%◌, get_or, ◌-ℤ◌};
+ghost use Rattle.std.specs.Prelude.{false, ◌≡◌, ◌+◌, ◌*◌, ◌%◌, ◌≤◌, nat_abs, get_or, ◌-ℤ◌};
 ghost use Rattle.std.proofs.Math.IntN.{sub_ℕ};
 ghost use Rattle.rules.specs.Variants.{limit_switch};
 ghost use Rattle.rules.specs.Motion.{c_value};
 ghost use Rattle.rules.specs.Switches.{advance_value, advance_shift, count_at, on_shift, off_shift, pair_holds, normal_holds, pulse_start, pulse_on, pulse_holds, switch_holds};
 ghost use Rattle.rules.specs.Card.{timed_after};
+ghost use Rattle.counts.specs.Factor.{factor};
 ghost use Rattle.switch.specs.Parts.{shift_bias, shift_counts, taken_back, spread_of, pair_at, some_pair, last_pulse, timed_left};
 
-use rules::{Advance, Limit, Position, Speed, Switch, TimedState};
+use counts::{ScaleFactor, used_pair};
+use rules::{Advance, Limit, Pair, Position, Speed, Switch, TimedState};
 
 // What is added to a shift s, so that one number stands for either sign: 2^47, more than any s.
 const SHIFT_BIAS: u64 = 140737488355328;
 
 // The magnitude of s: advance × c × SF / 245760. The whole product fits in 64 bits.
 #[tactic(auto, unfolding(crate::specs::Parts::shift_counts))]
-fn shift_counts(top: u16, tenths: u16, counts: u32) -> u64
-    ensures { result ≡ shift_counts (top + 1) tenths counts }
+fn shift_counts(sf: ScaleFactor, tenths: u16, counts: u32) -> u64
+    ensures magnitude { result ≡ shift_counts (factor sf) tenths counts }
+    ensures fits { result ≤ shift_bias }
 {
-    let sf = top as u64 + 1;
-    tenths as u64 * counts as u64 * sf / 245760
+    tenths as u64 * counts as u64 * sf.whole() as u64 / 245760
+}
+
+// How much of c there is, in either direction.
+fn magnitude(c: u32) -> u32
+    ensures { result ≡ nat_abs (c_value c) }
+{
+    c.abs_diff(Speed::C_BIAS)
 }
 
 // s of an advance at c, before reduction mod SF, with its bias. Like signs make s positive.
-fn shift(top: u16, a: Advance, c: u32) -> u64
-    ensures { sub_ℕ result shift_bias ≡ advance_shift (top + 1) (advance_value a) (c_value c) }
+fn shift(sf: ScaleFactor, a: Advance, c: u32) -> u64
+    ensures { sub_ℕ result shift_bias ≡ advance_shift (factor sf) (advance_value a) (c_value c) }
 {
     if a.tenths == 0 {
         return SHIFT_BIAS;
     }
-    let s = shift_counts(top, a.tenths, c.abs_diff(Speed::C_BIAS));
+    let s = shift_counts(sf, a.tenths, magnitude(c));
     let back = c < Speed::C_BIAS;
     if a.negative != back {
         return SHIFT_BIAS - s;
@@ -39,10 +48,10 @@ fn shift(top: u16, a: Advance, c: u32) -> u64
 }
 
 // n mod SF; below one turn nothing is left to reduce.
-fn reduced(top: u16, n: u64) -> u16
-    ensures { result ≡ n % (top + 1) }
+fn reduced(sf: ScaleFactor, n: u64) -> u16
+    ensures { result ≡ n % factor sf }
 {
-    let sf = top as u64 + 1;
+    let sf = sf.whole() as u64;
     if n < sf {
         return n as u16;
     }
@@ -50,28 +59,28 @@ fn reduced(top: u16, n: u64) -> u16
 }
 
 // A count taken back by the displacement of a setpoint, which is −s: (p + s) mod SF, where s has its bias.
-fn taken_back(top: u16, s: u64, p: u16) -> u16
-    ensures { result ≡ taken_back (top + 1) (sub_ℕ s shift_bias) p }
+fn taken_back(sf: ScaleFactor, s: u64, p: u16) -> u16
+    ensures { result ≡ taken_back (factor sf) (sub_ℕ s shift_bias) p }
 {
     if s < SHIFT_BIAS {
-        return counts::ahead(top, reduced(top, SHIFT_BIAS - s), p);
+        return sf.ahead(reduced(sf, SHIFT_BIAS - s), p);
     }
-    counts::sum(top, p, reduced(top, s - SHIFT_BIAS))
+    sf.sum(p, reduced(sf, s - SHIFT_BIAS))
 }
 
 // ON shift less OFF shift, both with their bias, and SF more. From a turn on to either side it makes no difference how much it is.
 #[tactic(auto, unfolding(crate::specs::Parts::spread_of))]
-fn spread(top: u16, on: u64, off: u64) -> u32
-    ensures { result ≡ spread_of (top + 1) (sub_ℕ on off) }
+fn spread(sf: ScaleFactor, on: u64, off: u64) -> u32
+    ensures { result ≡ spread_of (factor sf) (sub_ℕ on off) }
 {
-    let sf = top as u64 + 1;
+    let sf = sf.whole() as u64;
     if on < off {
         return sf.saturating_sub(off - on) as u32;
     }
     (sf + sf.min(on - off)) as u32
 }
 
-// The count of the position that a switch reads.
+// The count of the position that a switch reads. Not a `From`, by which either position could stand for the other anywhere.
 fn count_at(p: Position) -> u16
     ensures { result ≡ count_at p }
 {
@@ -81,17 +90,21 @@ fn count_at(p: Position) -> u16
     }
 }
 
-// A setpoint of a switch.
-fn setpoint(setpoints: [u16; 16], i: usize) -> u16
-    ensures { result ≡ get_or setpoints i 0 }
+// Pair k of a switch's setpoints.
+fn pair(setpoints: &[u16; 16], k: u16) -> Pair
+    ensures { (result.on ≡ get_or setpoints.now (2 * k) 0) × (result.off ≡ get_or setpoints.now (2 * k + 1) 0) }
 {
-    setpoints.get(i).copied().unwrap_or(0)
+    let at = 2 * k as usize;
+    Pair {
+        on: setpoints.get(at).copied().unwrap_or(0),
+        off: setpoints.get(at + 1).copied().unwrap_or(0),
+    }
 }
 
 // What the pairs of a switch are tested with, worked out once for all of them.
 #[derive(Clone, Copy)]
 struct Displaced {
-    pub top: u16,
+    pub sf: ScaleFactor,
     // The position, taken back by the ON displacement.
     pub from: u16,
     // How much the displacements lengthen a pair, and SF more.
@@ -99,36 +112,27 @@ struct Displaced {
 }
 
 impl Displaced {
-    // One pair: how far the position is from its start, less the pair's own length, against the spread. For how long it holds is decided here. That
-    // all its counts are in range is tested once for the pair: on that way the tests within `ahead` are decided, and no division is left.
+    // One pair: how far the position is from its start, less the pair's own length, against the spread. For how long it holds is decided here.
     #[tactic(auto, unfolding(crate::specs::Parts::pair_at))]
-    fn pair_holds(self, on: u16, off: u16) -> bool
-        ensures { result ≡ pair_at (self.top + 1) self.from self.spread on off }
+    fn pair_holds(self, pair: Pair) -> bool
+        ensures { result ≡ pair_at (factor self.sf) self.from self.spread pair.on pair.off }
     {
-        let sf = self.top as u32 + 1;
-        let used = counts::used_pair(on, off);
+        let used = used_pair(pair);
         if !used {
             return false;
         }
-        if (self.top < on) | (self.top < off) | (self.top < self.from) {
-            let length = counts::ahead_far(self.top, on, off) as u32;
-            return counts::ahead_far(self.top, on, self.from) as u32 + (sf - length) < self.spread;
-        }
-        let length = counts::ahead(self.top, on, off) as u32;
-        counts::ahead(self.top, on, self.from) as u32 + (sf - length) < self.spread
+        let Pair { on, off } = pair;
+        let at = self.sf.ahead(on, self.from) as u32;
+        let length = self.sf.ahead(on, off) as u32;
+        at + (self.sf.whole() - length) < self.spread
     }
 
     // The loop that tests the pairs of a normal switch, up to the first that holds.
     #[tactic(auto, unfolding(crate::specs::Parts::some_pair))]
-    fn some_pair_holds(self, setpoints: [u16; 16]) -> bool
-        ensures { result ≡ some_pair (self.top + 1) self.from self.spread setpoints }
+    fn some_pair_holds(self, setpoints: &[u16; 16]) -> bool
+        ensures { result ≡ some_pair (factor self.sf) self.from self.spread setpoints.now }
     {
-        for k in 0..8 {
-            if self.pair_holds(setpoints[2 * k], setpoints[2 * k + 1]) {
-                return true;
-            }
-        }
-        false
+        (0..8).any(|k| self.pair_holds(pair(setpoints, k)))
     }
 }
 
@@ -176,67 +180,66 @@ impl Train {
 // What every switch is tested with: the scale factor, c and the position that it reads.
 #[derive(Clone, Copy)]
 pub struct Moment {
-    pub top: u16,
+    pub sf: ScaleFactor,
     pub c: u32,
     pub position: Position,
 }
 
 impl Moment {
-    // What the pairs of a switch are tested with.
-    fn displaced(self, l: Limit) -> Displaced
-        ensures { (result.top ≡ self.top) × (result.from ≡ taken_back (self.top + 1) (on_shift (self.top + 1) (c_value self.c) l) (count_at self.position)) × (result.spread ≡ spread_of (self.top + 1) (on_shift (self.top + 1) (c_value self.c) l -ℤ off_shift (self.top + 1) (c_value self.c) l)) }
+    // What the pairs of a switch are tested with. Called, its structs would go through memory for each output.
+    #[inline(always)]
+    fn displaced(self, l: &Limit) -> Displaced
+        ensures { (result.sf ≡ self.sf) × (result.from ≡ taken_back (factor self.sf) (on_shift (factor self.sf) (c_value self.c) l.now) (count_at self.position)) × (result.spread ≡ spread_of (factor self.sf) (on_shift (factor self.sf) (c_value self.c) l.now -ℤ off_shift (factor self.sf) (c_value self.c) l.now)) }
     {
-        let on = shift(self.top, l.onadvance, self.c);
-        let off = shift(self.top, l.offadvance, self.c);
+        let on = shift(self.sf, l.onadvance, self.c);
+        let off = shift(self.sf, l.offadvance, self.c);
         Displaced {
-            top: self.top,
-            from: taken_back(self.top, on, count_at(self.position)),
-            spread: spread(self.top, on, off),
+            sf: self.sf,
+            from: taken_back(self.sf, on, count_at(self.position)),
+            spread: spread(self.sf, on, off),
         }
     }
 
     // Pair k of a switch holds.
-    pub fn pair_holds(self, l: Limit, k: u16) -> bool
-        ensures { result ≡ pair_holds (self.top + 1) (c_value self.c) l k self.position }
+    pub fn pair_holds(self, l: &Limit, k: u16) -> bool
+        ensures { result ≡ pair_holds (factor self.sf) (c_value self.c) l.now k self.position }
     {
-        let i = 2 * k as usize;
-        self.displaced(l)
-            .pair_holds(setpoint(l.setpoints, i), setpoint(l.setpoints, i + 1))
+        self.displaced(l).pair_holds(pair(&l.setpoints, k))
     }
 
     // Normal: some used pair holds.
-    pub fn normal_holds(self, l: Limit) -> bool
-        ensures { result ≡ normal_holds (self.top + 1) (c_value self.c) l self.position }
+    pub fn normal_holds(self, l: &Limit) -> bool
+        ensures { result ≡ normal_holds (factor self.sf) (c_value self.c) l.now self.position }
     {
-        self.displaced(l).some_pair_holds(l.setpoints)
+        self.displaced(l).some_pair_holds(&l.setpoints)
     }
 
     // A pulse switch: R from the unmoved pair, the train from the ON setpoint moved by the ON advance.
     #[tactic(auto, unfolding(rules::specs::Switches::pulse_holds))]
-    fn pulse_holds(self, l: Limit, quantity: u16, count: u16) -> bool
-        ensures { result ≡ pulse_holds (self.top + 1) (c_value self.c) l quantity count self.position }
+    fn pulse_holds(self, l: &Limit, quantity: u16, count: u16) -> bool
+        ensures { result ≡ pulse_holds (factor self.sf) (c_value self.c) l.now quantity count self.position }
     {
-        let [on, off, ..] = l.setpoints;
-        if !counts::used_pair(on, off) {
+        let pair = pair(&l.setpoints, 0);
+        if !used_pair(pair) {
             return false;
         }
         let from = taken_back(
-            self.top,
-            shift(self.top, l.onadvance, self.c),
+            self.sf,
+            shift(self.sf, l.onadvance, self.c),
             count_at(self.position),
         );
         let train = Train {
-            length: counts::ahead(self.top, on, off),
+            length: self.sf.ahead(pair.on, pair.off),
             quantity,
             count,
         };
-        train.is_on(counts::ahead(self.top, on, from))
+        train.is_on(self.sf.ahead(pair.on, from))
     }
 
     // A switch holds. `lasting` says of a timed one that its time has not run out.
     #[tactic(auto, unfolding(rules::specs::Switches::switch_holds))]
-    pub fn switch_holds(self, l: Limit, lasting: bool) -> bool
-        ensures { result ≡ switch_holds (self.top + 1) (c_value self.c) l (limit_switch l) self.position lasting }
+    pub fn switch_holds(self, l: &Limit, lasting: bool) -> bool
+        ensures { result ≡ switch_holds (factor self.sf) (c_value self.c) l.now (limit_switch l.now) self.position lasting }
     {
         let s = Switch::from(l.action);
         match s {

@@ -2,12 +2,11 @@
 -- Assumes nothing.
 use Prim.Native.Nat.{ℕ, zero, suc, ◌+◌, ◌*◌, ◌/◌, ◌%◌, ◌-◌, ◌^◌, ◌≤◌, ◌<◌, min, max}
 use mathlib.Core.Bool.{Bool, true, false, not, ◌&&◌, ◌||◌, xor}
-use mathlib.Core.List.{List, [], ◌∷◌}
+use mathlib.Core.List.{List}
 use mathlib.Core.Path.{◌≡◌, refl, sym, ap, ap₂, ◌∙◌}
 use native.Mathlib.Nat.{lt_of_lt_of_le, lt_of_le_of_lt, zero-add}
 use native.Mathlib.Omega.{arith}
 use lib.Dec.{eqb}
-use lib.ListN.{length, get_or, take, set}
 use lib.Pow.{pow_mono}
 use borrow.Author.Tests.{eq-eqb, ne_eqb}
 use Rattle.std.proofs.Common.{inl, inr}
@@ -19,7 +18,7 @@ use lib.Bits.{bit_and, bit_or, bit_xor, and_le_l}
 use lib.Count.{ones, ones_step}
 use mir.Val.{bool_byte}
 use Rattle.rules.proofs.Packing.{digit_le, packed_lt, packed_bit, packed_same}
-use Rattle.rules.specs.Words.{word, bit, digit, packed, some_of, count_of, lowest_of, stored_at, any_word, forced}
+use Rattle.rules.specs.Words.{word, bit, digit, packed, some_of, count_of, lowest_of, any_word, forced}
 
 -- ---- `packed`
 
@@ -171,14 +170,3 @@ lowest_none (suc n) i f h =
     rw (h i (omega arith) (omega arith)) (lowest_none n (i + 1) f (λ j a b. h j (omega arith) (omega arith)))
 
 -- ---- Words stored into a file
-
--- one word more
-pub stored_more : (at k : ℕ) (ws file : List ℕ) → k < length ws → stored_at at (take (suc k) ws) file ≡ set (stored_at at (take k ws) file) (at + k) (get_or ws k 0)
-unfolding stored_at
-stored_more at k [] file h = absurd (omega arith)
-stored_more at zero (w ∷ ws) file h =
-    let e : at + 0 ≡ at = omega arith in
-    rw e
-stored_more at (suc k) (w ∷ ws) file h =
-    let e : at + 1 + k ≡ at + suc k = omega arith in
-    rw (← e) (stored_more (at + 1) k ws (set file at w) (omega arith))

@@ -85,9 +85,7 @@ pub fn store(file: &mut [u16], at: usize, words: &[u16])
     if file.len() < at || file.len() - at < words.len() {
         return;
     }
-    for (k, &w) in words.iter().enumerate() {
-        file[at + k] = w;
-    }
+    file[at..at + words.len()].copy_from_slice(words);
 }
 
 // The word with these six lowest bits.

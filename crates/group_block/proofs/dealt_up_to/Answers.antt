@@ -7,4 +7,4 @@ pub loop-k-preserved : goal.loop-k-preserved
 loop-k-preserved c =
     let a = c.args in
     let l = c.loop-k in
-    (rw (c.share.ensures, c.group_of.ensures, l.invariant.0) (dealt_more a.file.now a.t l.k), omega arith)
+    (rw (c.share.ensures, c.group.ensures, l.invariant.0) (dealt_more a.file.now a.t l.k), omega arith)

@@ -67,8 +67,8 @@ loop-n-preserved c =
       | in-Unprogrammed w ↦
           off a.w program (of_group no_position a.positions owner) (of_group false a.isopen owner) (get_or a.xs n fresh_timed) n o (sym c.from.ensures ∙ w.in-Unprogrammed.is) w.a-is
       | in_default w ↦ (
-        rw (w.a-is, w.output_after-a.ensures.0, w.of_group-isopen.ensures, w.of_group-position.ensures),
-        rw (w.a-is, w.output_after-a.ensures.1, w.of_group-position.ensures),
+        rw (w.a-is, w.after-a.ensures.0, w.of_group-in_default.ensures, w.of_group.ensures),
+        rw (w.a-is, w.after-a.ensures.1, w.of_group.ensures),
       )
     ]
     in (

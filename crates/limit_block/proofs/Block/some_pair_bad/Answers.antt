@@ -8,6 +8,6 @@ use Rattle.limit_block.proofs.Block.some_pair_bad.Goals as goal
 
 pub returns : goal.returns
 returns c =
-    let f = block_pair_bad (c.args.top + 1) c.args.self.words in
+    let f = block_pair_bad (c.args.sf.top + 1) c.args.self.words in
     any_from_yields_List f _ _ _ c.any.ensures.ran (YieldsList-from_range 0 8 8 refl refl) (λ x b q k. search (rules, tests))
     ∙ some_any 8 0 f

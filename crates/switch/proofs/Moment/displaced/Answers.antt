@@ -11,6 +11,6 @@ use Rattle.switch.proofs.Moment.displaced.Goals as goal
 pub returns : goal.returns
 returns c =
     let x = c.args in
-    let apart : sub_ℕ c.shift-on.result c.shift-off.result ≡ on_shift (x.self.top + 1) (c_value x.self.c) x.l -ℤ off_shift (x.self.top + 1) (c_value x.self.c) x.l =
+    let apart : sub_ℕ c.shift-on.result c.shift-off.result ≡ on_shift (x.self.sf.top + 1) (c_value x.self.c) x.l.now -ℤ off_shift (x.self.sf.top + 1) (c_value x.self.c) x.l.now =
     sym (one_bias c.shift-on.result c.shift-off.result shift_bias) ∙ rw (c.shift-on.ensures, c.shift-off.ensures) in
     (refl, rw (c.taken_back.ensures, c.shift-on.ensures, c.count_at.ensures), rw (c.spread.ensures, apart))

@@ -6,4 +6,4 @@ use Rattle.switch.proofs.Moment.normal_holds.Goals as goal
 pub returns : goal.returns
 returns c =
     let x = c.args in
-    rw (some_displaced x.self.top (c_value x.self.c) x.l x.self.position, c.some_pair_holds.ensures, c.displaced.ensures.0, c.displaced.ensures.1, c.displaced.ensures.2)
+    rw (some_displaced x.self.sf.top (c_value x.self.c) x.l.now x.self.position, c.some_pair_holds.ensures, c.displaced.ensures.0, c.displaced.ensures.1, c.displaced.ensures.2)

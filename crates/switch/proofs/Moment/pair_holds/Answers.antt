@@ -7,10 +7,10 @@ pub returns : goal.returns
 returns c =
     let x = c.args in
     rw (
-      pair_displaced x.self.top (c_value x.self.c) x.l x.k x.self.position,
+      pair_displaced x.self.sf.top (c_value x.self.c) x.l.now x.k x.self.position,
       c.pair_holds.ensures,
-      c.setpoint-2.ensures,
-      c.setpoint.ensures,
+      c.pair.ensures.0,
+      c.pair.ensures.1,
       c.displaced.ensures.0,
       c.displaced.ensures.1,
       c.displaced.ensures.2,

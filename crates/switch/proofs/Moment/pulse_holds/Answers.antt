@@ -13,10 +13,12 @@ unfolding pulse_holds taken_back
 returns c =
     let x = c.args in
     let far : (on : ℕ) →
-    ahead (x.self.top + 1) on c.taken_back-from.result ≡ ahead (x.self.top + 1) (moved (x.self.top + 1) (advance_value x.l.onadvance) (c_value x.self.c) on) (count_at x.self.position) =
+    ahead (x.self.sf.top + 1) on c.taken_back-from.result ≡ ahead (x.self.sf.top + 1) (moved (x.self.sf.top + 1) (advance_value x.l.now.onadvance) (c_value x.self.c) on) (count_at x.self.position) =
     λ on. rw (c.taken_back-from.ensures, c.count_at.ensures, c.shift.ensures)
-    (sym (ahead_of_moved x.self.top (advance_value x.l.onadvance) (c_value x.self.c) on (count_at x.self.position))) in
+    (sym (ahead_of_moved x.self.sf.top (advance_value x.l.now.onadvance) (c_value x.self.c) on (count_at x.self.position))) in
     rw (
+      ← c.pair-pair.ensures.0,
+      ← c.pair-pair.ensures.1,
       sym c.used_pair.ensures ∙ c.if-not-used_pair.false,
       c.is_on.ensures,
       c.ahead-2.ensures,

@@ -12,7 +12,7 @@ ghost use Rattle.rules.specs.Card as card;
 ghost use Rattle.card.specs.Calls.{Gives};
 
 use file_cycle::file_cycle;
-use rules::{Answer, FileCycle, Module, Sample};
+use rules::{Answer, CycleResult, FileCycle, Module, Sample};
 
 // What a byte read answers: 0 and the byte, or 13 and 0.
 #[repr(C)]
@@ -22,14 +22,21 @@ pub struct Byte {
     pub value: u8,
 }
 
+// What a call by value gives back: its module is stored, its outcome's number answered.
+fn give(m: &mut Module, r: CycleResult) -> u16
+    ensures { Gives r m.new result }
+{
+    *m = r.card;
+    u16::from(r.outcome)
+}
+
 // Power-up. Returns 0, or 3 for a number that is no module's, and then the module stays as it was.
 #[unsafe(no_mangle)]
 pub extern "C" fn chimneyrye_power_up(m: &mut Module, number: u16) -> u16
     ensures { Gives (card.powered_up m.old number) m.new result }
 {
     let r = Module::power_up(*m, number);
-    *m = r.card;
-    u16::from(r.outcome)
+    give(m, r)
 }
 
 // A cycle that takes a file, on the lent module. C calls it by one name for each kind; each of the contracts is the whole promise, a definition for the
@@ -39,8 +46,7 @@ fn cycle_on(kind: FileCycle, m: &mut Module, file: &mut [u16]) -> u16
     ensures file { file.new ≡ card.file_left kind m.old file.old }
 {
     let r = file_cycle(kind, *m, file);
-    *m = r.card;
-    u16::from(r.outcome)
+    give(m, r)
 }
 
 // The setup cycle, on a lent M0 file.
@@ -76,8 +82,7 @@ pub extern "C" fn chimneyrye_nudge(m: &mut Module, word: u16) -> u16
     ensures { Gives (card.nudge_call m.old word) m.new result }
 {
     let r = nudge::nudge_cycle(*m, word);
-    *m = r.card;
-    u16::from(r.outcome)
+    give(m, r)
 }
 
 // One step, on the module where it sits. What a step does not change is not stored: stored whole, the module would be copied several times in every step.

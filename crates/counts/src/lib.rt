@@ -5,12 +5,28 @@ ghost use Rattle.std.specs.Prelude.{◌≡◌, ◌+◌, ◌%◌, not, ◌&&◌, 
 ghost use Rattle.rules.specs.Counts as counts;
 ghost use Rattle.counts.specs.Factor.{factor};
 
-use rules::Pair;
+use rules::{Conditions, Pair, Setup};
 
 // A scale factor, held less one as in the setup: 1 to 65,536, so that no value divides by 0.
 #[derive(Clone, Copy, Debug, PartialEq, Eq)]
 pub struct ScaleFactor {
     pub top: u16,
+}
+
+impl From<Setup> for ScaleFactor {
+    ghost from_gives = { λ u sf. sf ≡ record { top = u.top } };
+
+    fn from(u: Setup) -> ScaleFactor {
+        ScaleFactor { top: u.top }
+    }
+}
+
+impl From<Conditions> for ScaleFactor {
+    ghost from_gives = { λ w sf. sf ≡ record { top = w.top } };
+
+    fn from(w: Conditions) -> ScaleFactor {
+        ScaleFactor { top: w.top }
+    }
 }
 
 impl ScaleFactor {
@@ -32,6 +48,17 @@ impl ScaleFactor {
             return to - from;
         }
         to + (self.top - from) + 1
+    }
+
+    // n mod SF; below one turn nothing is left to reduce.
+    pub fn reduced(self, n: u64) -> u16
+        ensures { result ≡ n % factor self }
+    {
+        let sf = self.whole() as u64;
+        if n < sf {
+            return n as u16;
+        }
+        (n % sf) as u16
     }
 
     // (a + b) mod SF. In range one comparison and one subtraction, else the remainder.

@@ -1,30 +1,23 @@
 // The forces on the outputs, and what a step answers.
 
-ghost use Rattle.std.specs.Prelude.{◌≡◌, cond, ◌&&◌, ltb};
+ghost use Rattle.std.specs.Prelude.{◌≡◌, cond, ltb};
 ghost use Rattle.rules.specs.Words as words;
 ghost use Rattle.rules.specs.Switches as switches;
 
 use rules::{Answer, Conditions, IoType, Model, OutputWords, Sample, Setup};
-
-// Sixteen outputs after their forces, off beats on; a missing one is never on.
-fn forced(present: u16, off: u16, on: u16, rule: u16) -> u16
-    ensures { result ≡ words.word_of 0 (λ n. words.bit present n && words.forced (words.bit off n) (words.bit on n) (words.bit rule n)) }
-{
-    present & ((off ^ 0xffff) & (on | rule))
-}
 
 // The two words of outputs, where bit n of `rule` says whether output n is on before the forces.
 pub fn output_words(m: Model, s: Sample, rule: u32) -> OutputWords
     ensures { result ≡ switches.output_words m s (words.bit rule) }
 {
     OutputWords {
-        real: forced(
+        real: word::forced(
             motion::present(m, IoType::Real),
             s.realoff,
             s.realon,
             (rule & 0xffff) as u16,
         ),
-        virtuals: forced(
+        virtuals: word::forced(
             motion::present(m, IoType::Virtual),
             s.virtualoff,
             s.virtualon,

@@ -50,7 +50,7 @@ fn group_after(w: Conditions, g: Group, x: GroupState, n: u16) -> GroupAfter
     ensures { (result.state ≡ card.group_now w g x n) × (result.position ≡ card.left_position w g x n) × (result.isopen ≡ card.open_now w g x n) }
 {
     let e = event(w, g, n);
-    let step = group::group_step(ScaleFactor { top: w.top }, g, x, e);
+    let step = group::group_step(ScaleFactor::from(w), g, x, e);
     let mode = Mode::from(g.mode);
     GroupAfter {
         state: step.state,

@@ -59,7 +59,7 @@ fn moment(w: Conditions, position: GroupPosition) -> Moment
     ensures { result ≡ record { sf = record { top = w.top }; c = w.c; position = switches.switch_position w position } }
 {
     Moment {
-        sf: ScaleFactor { top: w.top },
+        sf: ScaleFactor::from(w),
         c: w.c,
         position: switch_position(w, position),
     }

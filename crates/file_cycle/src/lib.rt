@@ -113,7 +113,7 @@ fn check(kind: FileCycle, g: Configuration, file: &[u16]) -> Failing
         },
         FileCycle::GroupCycle => groups::failing(
             Model::from(g.model),
-            ScaleFactor { top: p.setup.top },
+            ScaleFactor::from(p.setup),
             file,
         ),
         FileCycle::LimitCycle => limits::failing(Model::from(g.model), p, file),

@@ -202,11 +202,7 @@ impl Block {
     fn train(self, sf: ScaleFactor) -> Train
         ensures { result ≡ record { length = limit.block_length (factor sf) self.words; quantity = word self.words 5; count = word self.words 6 } }
     {
-        Train {
-            length: sf.ahead(self.words[3], self.words[4]),
-            quantity: self.words[5],
-            count: self.words[6],
-        }
+        Train::of(sf, self.pair(0), self.words[5], self.words[6])
     }
 
     // Bit 4, where bit 3 is `bit3`: the length of a train, a timed switch's duration or number.

@@ -24,28 +24,13 @@ fn limit_reserved(file: &[u16]) -> bool
         || word::any_word(file, 610, 629)
 }
 
-// Output n, from 1, has no group in Group Mode.
+// Output n, from 1, has no group in Group Mode: the number 0, as the module stores it for C.
 #[tactic(auto, unfolding(rules::specs::LimitWords::unassigned))]
 fn unassigned(p: &Programming, n: u16) -> bool
     ensures { result ≡ limit.unassigned p.now n }
 {
     let i = n.saturating_sub(1) as usize;
     !p.setup.independent && (i >= 32 || p.owners[i] == 0)
-}
-
-// Bits 0 to 5 of output n, from 1.
-#[tactic(auto, unfolding(rules::specs::LimitWords::limit_bits))]
-fn limit_bits(m: Model, p: &Programming, file: &[u16], n: u16) -> u16
-    ensures { result ≡ limit.limit_bits m p.now file.now n }
-{
-    match Block::read(m, file, n) {
-        None => 0,
-        Some(_) if unassigned(p, n) => 1,
-        Some(block) => block.bits(
-            ScaleFactor { top: p.setup.top },
-            limit_block::fifth_timed(file, n),
-        ),
-    }
 }
 
 // The limit blocks of M1, judged against a model and the programming in force.
@@ -59,8 +44,17 @@ struct LimitBlocks<'a> {
 impl Blocks for LimitBlocks<'_> {
     ghost bits = { λ b n. limit.limit_bits b.model b.programming.now b.file.now n };
 
+    // Bits 0 to 5 of output n, from 1.
+    #[tactic(auto, unfolding(rules::specs::LimitWords::limit_bits))]
     fn errors_of(&self, n: u16) -> u16 {
-        limit_bits(self.model, self.programming, self.file, n)
+        match Block::read(self.model, self.file, n) {
+            None => 0,
+            Some(_) if unassigned(self.programming, n) => 1,
+            Some(block) => block.bits(
+                ScaleFactor::from(self.programming.setup),
+                limit_block::fifth_timed(self.file, n),
+            ),
+        }
     }
 }
 

@@ -34,7 +34,7 @@ pub fn real_inputs(m: Model, u: Setup, s: Sample) -> u16
     ensures { result ≡ words.word_of 0 (motion.real_input m u s) }
 {
     let active = s.currents ^ u.states ^ 0xffff;
-    present(m, IoType::Real) & ((s.inputsoff ^ 0xffff) & (s.inputson | active))
+    word::forced(present(m, IoType::Real), s.inputsoff, s.inputson, active)
 }
 
 // The level of input n of a type, from 0.
@@ -71,9 +71,9 @@ pub fn scaled_position(sf: ScaleFactor, q: u16) -> u32
 pub fn machine_position(u: Setup, raw: u16) -> MachinePosition
     ensures { result ≡ motion.machine_position u raw }
 {
-    let sf = ScaleFactor { top: u.top };
+    let sf = ScaleFactor::from(u);
     let p = scaled_position(sf, turned(u.reversed, raw));
-    MachinePosition(((p + u.offset as u32) % sf.whole()) as u16)
+    MachinePosition(sf.reduced(p as u64 + u.offset as u64))
 }
 
 // Movement, with 512 added.

@@ -50,11 +50,7 @@ fn fails(sf: ScaleFactor, s: Switch, pair: Pair) -> bool
 {
     match s {
         Switch::Pulse(quantity, count) => {
-            let train = Train {
-                length: sf.ahead(pair.on, pair.off),
-                quantity,
-                count,
-            };
+            let train = Train::of(sf, pair, quantity, count);
             limit_block::pulse_bad(false, train) || limit_block::pulses_touch(sf, train)
         }
         Switch::Unprogrammed | Switch::Normal | Switch::Timed(_) => false,
@@ -153,7 +149,7 @@ impl Nudge {
     {
         let mut limits = p.limits;
         let i = self.output();
-        limits[i] = self.limit(ScaleFactor { top: p.setup.top }, limits[i])?;
+        limits[i] = self.limit(ScaleFactor::from(p.setup), limits[i])?;
         Some(Programming { limits, ..p })
     }
 

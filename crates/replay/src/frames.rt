@@ -5,7 +5,7 @@ use df1::{Direction, number_of};
 // The low bytes of a file's words, at the room's start. Data or a frame that the room has not whole is refused by the part that it has.
 fn low_bytes<'a>(words: &[u16], room: &'a mut [u8; 651]) -> &'a [u8] {
     for (byte, word) in room.iter_mut().zip(words) {
-        *byte = (word % 256) as u8;
+        [*byte, _] = word.to_le_bytes();
     }
     &room[..words.len().min(651)]
 }

@@ -109,7 +109,8 @@ impl Replay {
         let offset = read_word(&mut self.from)?;
         let value = read_word(&mut self.from)?;
         if let Some(card) = self.module() {
-            let p = bus::write_byte(card, offset, (value % 256) as u8);
+            let [low, _] = value.to_le_bytes();
+            let p = bus::write_byte(card, offset, low);
             let up = u8::from(bus::line(p.card));
             let _ = println!(self.to; "write {} {up}", Shown(p.outcome));
             self.card = Some(p.card);

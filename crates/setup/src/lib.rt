@@ -136,7 +136,7 @@ fn preset_offset(sf: u16, reversed: bool, preset: u16, raw: u16) -> u16
     let scale = ScaleFactor { top: sf - 1 };
     let n = scale.whole();
     let p = motion::scaled_position(scale, motion::turned(reversed, raw));
-    ((preset as u32 + (n - p % n)) % n) as u16
+    scale.reduced((preset as u32 + (n - p % n)) as u64)
 }
 
 // A bit of the command word.

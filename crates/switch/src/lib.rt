@@ -3,6 +3,7 @@
 
 ghost use Rattle.std.specs.Prelude.{false, ◌≡◌, ◌+◌, ◌*◌, ◌%◌, ◌≤◌, nat_abs, get_or, ◌-ℤ◌};
 ghost use Rattle.std.proofs.Math.IntN.{sub_ℕ};
+ghost use Rattle.rules.specs.Counts.{ahead};
 ghost use Rattle.rules.specs.Variants.{limit_switch};
 ghost use Rattle.rules.specs.Motion.{c_value};
 ghost use Rattle.rules.specs.Switches.{advance_value, advance_shift, count_at, on_shift, off_shift, pair_holds, normal_holds, pulse_start, pulse_on, pulse_holds, switch_holds};
@@ -47,25 +48,14 @@ fn shift(sf: ScaleFactor, a: Advance, c: u32) -> u64
     SHIFT_BIAS + s
 }
 
-// n mod SF; below one turn nothing is left to reduce.
-fn reduced(sf: ScaleFactor, n: u64) -> u16
-    ensures { result ≡ n % factor sf }
-{
-    let sf = sf.whole() as u64;
-    if n < sf {
-        return n as u16;
-    }
-    (n % sf) as u16
-}
-
 // A count taken back by the displacement of a setpoint, which is −s: (p + s) mod SF, where s has its bias.
 fn taken_back(sf: ScaleFactor, s: u64, p: u16) -> u16
     ensures { result ≡ taken_back (factor sf) (sub_ℕ s shift_bias) p }
 {
     if s < SHIFT_BIAS {
-        return sf.ahead(reduced(sf, SHIFT_BIAS - s), p);
+        return sf.ahead(sf.reduced(SHIFT_BIAS - s), p);
     }
-    sf.sum(p, reduced(sf, s - SHIFT_BIAS))
+    sf.sum(p, sf.reduced(s - SHIFT_BIAS))
 }
 
 // ON shift less OFF shift, both with their bias, and SF more. From a turn on to either side it makes no difference how much it is.
@@ -145,6 +135,17 @@ pub struct Train {
 }
 
 impl Train {
+    // The train of a pair as long as that, with its pulses and their counts.
+    pub fn of(sf: ScaleFactor, pair: Pair, quantity: u16, count: u16) -> Train
+        ensures { result ≡ record { length = ahead (factor sf) pair.on pair.off; quantity = quantity; count = count } }
+    {
+        Train {
+            length: sf.ahead(pair.on, pair.off),
+            quantity,
+            count,
+        }
+    }
+
     // Where pulse j starts.
     pub fn start(self, j: u16) -> u32
         ensures { result ≡ pulse_start self.length self.quantity self.count j }
@@ -228,11 +229,7 @@ impl Moment {
             shift(self.sf, l.onadvance, self.c),
             count_at(self.position),
         );
-        let train = Train {
-            length: self.sf.ahead(pair.on, pair.off),
-            quantity,
-            count,
-        };
+        let train = Train::of(self.sf, pair, quantity, count);
         train.is_on(self.sf.ahead(pair.on, from))
     }
 

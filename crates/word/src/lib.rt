@@ -1,7 +1,7 @@
 // Words of 16 bits and files of words: what the readers and writers of the card's files, inputs and outputs are made of.
 #![tactic(auto)]
 
-ghost use Rattle.std.specs.Prelude.{◌≡◌, [], ◌∷◌, not, cond, ◌+◌, ◌-◌, ◌<◌, leb, length};
+ghost use Rattle.std.specs.Prelude.{◌≡◌, [], ◌∷◌, not, ◌&&◌, cond, ◌+◌, ◌-◌, ◌<◌, leb, length};
 ghost use Rattle.rules.specs.Words as words;
 ghost use Rattle.word.specs.Layout.{named};
 
@@ -49,6 +49,13 @@ pub fn other_bit(w: u16, layout: Layout) -> bool
     ensures { result ≡ words.other_bit (named layout) w }
 {
     reserved(layout) & w != 0
+}
+
+// Sixteen inputs or outputs after their forces, off beats on; a missing one is never on.
+pub fn forced(present: u16, off: u16, on: u16, before: u16) -> u16
+    ensures { result ≡ words.word_of 0 (λ n. words.bit present n && words.forced (words.bit off n) (words.bit on n) (words.bit before n)) }
+{
+    present & ((off ^ 0xffff) & (on | before))
 }
 
 // How many of sixteen outputs changed.

@@ -7,4 +7,4 @@ pub returns : goal.returns
 unfolding io_count
 returns c =
     let a = c.args in
-    rw c.present.ensures (inputs_word a.m a.u a.s)
+    rw (c.forced.ensures, c.present.ensures) (inputs_word a.m a.u a.s)

@@ -21,7 +21,7 @@ returns c =
       ← c.pair-pair.ensures.1,
       sym c.used_pair.ensures ∙ c.if-not-used_pair.false,
       c.is_on.ensures,
-      c.ahead-2.ensures,
-      far _,
       c.ahead.ensures,
+      far _,
+      c.of-train.ensures,
     )

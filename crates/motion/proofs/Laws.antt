@@ -1,15 +1,14 @@
 -- The word of the active real inputs.
 -- Assumes nothing.
-use Rattle.std.proofs.Common.{◌≡◌, ℕ, ◌+◌, ◌<◌, ◌≤◌, Bool, not, ◌&&◌, ltb, ap, ap₂, ◌∙◌, arith}
+use Rattle.std.proofs.Common.{◌≡◌, ℕ, Bool, not, ◌&&◌, ltb, ap, ap₂, ◌∙◌, arith}
 use mathlib.Core.Bool.{xor, beq, not-not}
 use lib.Bits.{bit_xor}
-use Rattle.std.proofs.lemmas.Nat.{mul-le}
 use Rattle.rules.specs.declared.Model.{Model}
 use Rattle.rules.specs.declared.Setup.{Setup}
 use Rattle.rules.specs.declared.Sample.{Sample}
 use Rattle.rules.specs.Words.{bit, word_of, forced}
 use Rattle.rules.specs.Variants.{real_count}
-use Rattle.rules.specs.Motion.{real_input, scaled_position}
+use Rattle.rules.specs.Motion.{real_input}
 use Rattle.rules.proofs.Packing.{packed_same, packed_bit}
 use Rattle.word.proofs.Laws.{xor_bit, not_bit}
 

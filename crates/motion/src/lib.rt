@@ -132,10 +132,8 @@ pub fn window_after(size: u16, w: Window, m: u16) -> Window
 pub fn rpm_of(fast: bool, counts: u32) -> u32
     ensures { result ≡ motion.rpm_of fast (pos counts) }
 {
-    if fast {
-        return ((120000 * counts as u64 + 122880) / 245760) as u32;
-    }
-    ((120000 * counts as u64 + 516096) / 1032192) as u32
+    let time: u64 = if fast { 122880 } else { 516096 };
+    ((120000 * counts as u64 + time) / (2 * time)) as u32
 }
 
 // c after a step, with what its window added.

@@ -53,6 +53,7 @@ fn byte_of(w: u16, n: u16) -> u8
     (w / 256) as u8
 }
 
+#[tactic(auto, using(crate::proofs::Laws::byte_of_words), unfolding(rules::specs::Bus::table_byte))]
 fn table_byte(g: Configuration, x: Shown, n: u16) -> u8
     ensures { result ≡ bus.table_byte g x n }
 {

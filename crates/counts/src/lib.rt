@@ -37,6 +37,7 @@ impl ScaleFactor {
     }
 
     // How far `to` is ahead of `from`: (to − from) mod SF. In range one comparison and one subtraction, else the remainder.
+    #[tactic(auto, using(rules::proofs::Laws::ahead_up, rules::proofs::Laws::ahead_round, rules::proofs::Laws::ahead_natural))]
     pub fn ahead(self, from: u16, to: u16) -> u16
         ensures { result ≡ counts.ahead (factor self) from to }
     {

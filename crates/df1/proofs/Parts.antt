@@ -139,9 +139,6 @@ module _ (input : List ℕ) where
   pub no_frame : (HasParts input → ⊥) → is_frame input ≡ false
   no_frame h = false_from_ne_true (is_frame input) (λ e. h (frame_parts e))
 
-  pub unframed : (Framed input → ⊥) → is_frame input ≡ false
-  unframed h = no_frame (λ p. h p.framed)
-
 -- what a scan of a body says
 pub scan_none : (body : List ℕ) → None ≡ scan_of body → paired body ≡ true → ⊥
 unfolding scan_of

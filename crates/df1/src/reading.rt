@@ -31,6 +31,7 @@ fn scan(body: &[u8]) -> Option<Scan>
 }
 
 // The body of a frame that spans the input, and the number of its data bytes.
+#[tactic(auto, using(crate::proofs::Parts::inside_part, crate::proofs::Parts::no_frame, crate::proofs::Parts::parts_frame, crate::proofs::Parts::scan_none, crate::proofs::Parts::scan_some), unfolding(crate::specs::Frame::check_byte, crate::specs::Frame::data_of))]
 fn found(input: &[u8]) -> Option<(&[u8], usize)>
     ensures { MatchOption result (is_frame input.now ≡ false) (λ p. IsBody input.now p.0.now p.1) }
 {

@@ -41,6 +41,7 @@ struct Since {
 }
 
 // The groups and the outputs of a step that is not answered 11.
+#[tactic(auto, unfolding(rules::specs::Card::rule_now, rules::specs::Card::since_after))]
 fn since_after(p: Programming, w: Conditions, speed: Speed, x: SinceStart) -> Since
     ensures { (result.since ≡ card.since_after p w speed x) × (result.on ≡ words.packed 32 0 (card.rule_now p w x)) }
 {
@@ -60,6 +61,7 @@ fn since_after(p: Programming, w: Conditions, speed: Speed, x: SinceStart) -> Si
 }
 
 // A step that is not answered 11. Module and sample are what a step takes, and stay two arguments in all of its functions.
+#[tactic(auto, using(crate::proofs::Words::words_packed), unfolding(crate::specs::Parts::ruled_outputs, crate::specs::Parts::sound_answer, crate::specs::Parts::sound_change, rules::specs::Card::conditions_now, rules::specs::Motion::conditions))]
 fn sound_step(m: Module, s: Sample) -> Change
     ensures { result ≡ sound_change m.configuration m.state s }
 {
@@ -102,6 +104,7 @@ fn timed_at_rest(xs: [TimedState; 32]) -> [TimedState; 32]
 
 // A step that is answered 11: it latches the fault, and is a module start. The fresh state is written here and not in a function of its own: the
 // compiler then does not copy the module in every step.
+#[tactic(auto, using(crate::proofs::Words::words_none), unfolding(crate::specs::Parts::dark_outputs, crate::specs::Parts::fault_answer, crate::specs::Parts::fault_change, rules::specs::Card::module_start, rules::specs::Motion::fault_conditions, rules::specs::Switches::answer_of))]
 fn fault_step(m: Module, s: Sample) -> Change
     ensures { result ≡ fault_change m.configuration m.state s }
 {
@@ -145,6 +148,7 @@ pub fn change_of(m: Module, s: Sample) -> Change
 }
 
 // One step of the card. What is not changed is the same in either case, so that it need not be copied.
+#[tactic(auto, unfolding(rules::specs::Card::step_call))]
 pub fn step(m: Module, s: Sample) -> StepResult
     ensures { result ≡ card.step_call m s }
 {

@@ -134,6 +134,7 @@ impl Output<'_> {
     }
 
     // The output before the forces. Of a timed switch the pair is tested once, for its state and for the output.
+    #[tactic(auto, using(crate::proofs::OutputLaws::timed_on, crate::proofs::OutputLaws::untimed_on, crate::proofs::OutputLaws::untimed_rests))]
     fn after(&self, w: Conditions, x: TimedState) -> OutputAfter
         ensures { (result.on ≡ switches.output_rule w self.now.limit.now self.now.position self.now.isopen (ltb 0 (card.timed_now w self.now.limit.now self.now.position x).left) self.now.n) × (result.timed ≡ card.timed_now w self.now.limit.now self.now.position x) }
     {

@@ -255,6 +255,7 @@ fn data(
 
 // What an acting cycle does to a configuration, where its check found `errors`. Kind, configuration and file are no struct: `underway` makes another
 // configuration, and the file is lent to be written.
+#[tactic(auto, using(rules::proofs::Cycles::errors_underway), unfolding(rules::specs::FileCycle::file_acts))]
 fn file_acts(kind: FileCycle, clear: bool, errors: u16, g: Configuration, file: &[u16]) -> Decision
     ensures { errors ≡ rule.file_errors kind g file.now → result ≡ rule.file_acts kind file.now (cycle.underway (Cycle.OfFile kind) clear g) }
 {
@@ -263,6 +264,7 @@ fn file_acts(kind: FileCycle, clear: bool, errors: u16, g: Configuration, file: 
 }
 
 // The acting cycle, on a file of the kind's length.
+#[tactic(auto)]
 fn act(kind: FileCycle, clear: bool, m: Module, file: &mut [u16]) -> CycleResult
     ensures { length file.old ≡ rule.file_length kind →
         (let d = rule.file_acts kind file.old (cycle.underway (Cycle.OfFile kind) clear m.configuration) in
@@ -279,6 +281,7 @@ fn act(kind: FileCycle, clear: bool, m: Module, file: &mut [u16]) -> CycleResult
 }
 
 // The cycle.
+#[tactic(auto, unfolding(rules::specs::Card::file_call, rules::specs::Card::file_left, rules::specs::Cycle::cycle, rules::specs::Cycle::idle_cycle, rules::specs::Cycle::turned_away, rules::specs::FileCycle::file_after, rules::specs::FileCycle::file_cycle))]
 pub fn file_cycle(kind: FileCycle, m: Module, file: &mut [u16]) -> CycleResult
     ensures { (result ≡ card.file_call kind m file.old) × (file.new ≡ card.file_left kind m file.old) }
 {

@@ -229,6 +229,7 @@ impl Block {
     }
 
     // Bits 1 to 5 of word 630; of type 3 only 1 and 2 are tested. `fifth` says that the output is at least the fifth timed of its kind.
+    #[tactic(auto, unfolding(rules::specs::LimitWords::block_bits, rules::specs::LimitWords::length_bit, rules::specs::LimitWords::touch_bit))]
     pub fn bits(self, sf: ScaleFactor, fifth: bool) -> u16
         ensures { result ≡ limit.block_bits (factor sf) fifth self.words }
     {

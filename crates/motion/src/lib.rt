@@ -77,7 +77,7 @@ pub fn machine_position(u: Setup, raw: u16) -> MachinePosition
 }
 
 // Movement, with 512 added.
-#[tactic(auto, unfolding(rules::specs::Card::biased_movement))]
+#[tactic(auto, using(rules::proofs::Laws::biased_natural), unfolding(rules::specs::Card::biased_movement))]
 pub fn biased_movement(last: Last, q: u16) -> u16
     ensures { result ≡ card.biased_movement last q }
 {
@@ -99,6 +99,7 @@ pub fn window_steps(fast: bool) -> u16
 }
 
 // The step that comes is the window's last. The size comes beside the window: it goes with TResp, and is no part of the window's C layout.
+#[tactic(auto, unfolding(rules::specs::Card::updates))]
 pub fn updates(size: u16, w: Window) -> bool
     ensures { result ≡ card.updates size w }
 {
@@ -114,7 +115,7 @@ pub fn window_sum(w: Window, m: u16) -> u32
 }
 
 // The window after a step.
-#[tactic(auto, unfolding(rules::specs::Card::window_after))]
+#[tactic(auto, unfolding(rules::specs::Card::updates, rules::specs::Card::window_after))]
 pub fn window_after(size: u16, w: Window, m: u16) -> Window
     ensures { result ≡ card.window_after size w m }
 {
@@ -137,6 +138,7 @@ pub fn rpm_of(fast: bool, counts: u32) -> u32
 }
 
 // c after a step, with what its window added.
+#[tactic(auto, unfolding(rules::specs::Card::c_after))]
 fn c_after(x: Speed, m: u16) -> u32
     ensures { result ≡ card.c_after x m }
 {
@@ -147,6 +149,7 @@ fn c_after(x: Speed, m: u16) -> u32
 }
 
 // rpm after a step.
+#[tactic(auto, using(counts::proofs::Distance::apart_is), unfolding(rules::specs::Card::rpm_after, rules::specs::Motion::rpm_of))]
 fn rpm_after(fast: bool, x: Speed, m: u16) -> u32
     ensures { result ≡ card.rpm_after fast x m }
 {
@@ -159,6 +162,7 @@ fn rpm_after(fast: bool, x: Speed, m: u16) -> u32
 }
 
 // The speed after a step at q.
+#[tactic(auto, unfolding(rules::specs::Card::speed_after))]
 pub fn speed_after(u: Setup, x: Speed, q: u16) -> Speed
     ensures { result ≡ card.speed_after u x q }
 {

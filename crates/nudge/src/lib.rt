@@ -116,6 +116,7 @@ impl Nudge {
     }
 
     // The switch with its pair nudged; none where refusal 10 comes.
+    #[tactic(auto, using(crate::proofs::Laws::unused_bad, crate::proofs::Laws::on_bad, crate::proofs::Laws::off_bad, crate::proofs::Laws::pair_bad, crate::proofs::Laws::good), unfolding(rules::specs::Nudge::nudged_limit))]
     fn limit(self, sf: ScaleFactor, l: Limit) -> Option<Limit>
         ensures { MatchOption result
             (nudge.nudge_setpoint_bad (factor sf) l (nudge.nudge_pair self.word) self.word ≡ true)

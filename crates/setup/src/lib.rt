@@ -127,6 +127,7 @@ pub fn setup_errors(file: &[u16]) -> u16
 // ---- The setup
 
 // The offset at which Machine Position is the preset where the raw is `raw`.
+#[tactic(auto, using(crate::proofs::Laws::preset_zero, crate::proofs::Laws::preset_natural))]
 fn preset_offset(sf: u16, reversed: bool, preset: u16, raw: u16) -> u16
     ensures { result ≡ setup.preset_offset sf reversed preset raw }
 {

@@ -18,7 +18,7 @@ use rules::{Advance, Limit, Pair, Position, Speed, Switch, TimedState};
 const SHIFT_BIAS: u64 = 140737488355328;
 
 // The magnitude of s: advance × c × SF / 245760. The whole product fits in 64 bits.
-#[tactic(auto, unfolding(crate::specs::Parts::shift_counts))]
+#[tactic(auto, using(crate::proofs::Advance::shift_fits), unfolding(crate::specs::Parts::shift_counts))]
 fn shift_counts(sf: ScaleFactor, tenths: u16, counts: u32) -> u64
     ensures magnitude { result ≡ shift_counts (factor sf) tenths counts }
     ensures fits { result ≤ shift_bias }
@@ -27,6 +27,7 @@ fn shift_counts(sf: ScaleFactor, tenths: u16, counts: u32) -> u64
 }
 
 // How much of c there is, in either direction.
+#[tactic(auto, using(counts::proofs::Distance::apart_is))]
 fn magnitude(c: u32) -> u32
     ensures { result ≡ nat_abs (c_value c) }
 {
@@ -49,6 +50,7 @@ fn shift(sf: ScaleFactor, a: Advance, c: u32) -> u64
 }
 
 // A count taken back by the displacement of a setpoint, which is −s: (p + s) mod SF, where s has its bias.
+#[tactic(auto, using(crate::proofs::Advance::back_down, crate::proofs::Advance::back_up))]
 fn taken_back(sf: ScaleFactor, s: u64, p: u16) -> u16
     ensures { result ≡ taken_back (factor sf) (sub_ℕ s shift_bias) p }
 {
@@ -103,7 +105,7 @@ struct Displaced {
 
 impl Displaced {
     // One pair: how far the position is from its start, less the pair's own length, against the spread. For how long it holds is decided here.
-    #[tactic(auto, unfolding(crate::specs::Parts::pair_at))]
+    #[tactic(auto, using(rules::proofs::Laws::ahead_below), unfolding(crate::specs::Parts::pair_at))]
     fn pair_holds(self, pair: Pair) -> bool
         ensures { result ≡ pair_at (factor self.sf) self.from self.spread pair.on pair.off }
     {
@@ -147,6 +149,7 @@ impl Train {
     }
 
     // Where pulse j starts.
+    #[tactic(auto, using(crate::proofs::Pulses::start_value))]
     pub fn start(self, j: u16) -> u32
         ensures { result ≡ pulse_start self.length self.quantity self.count j }
     {
@@ -169,7 +172,7 @@ impl Train {
     }
 
     // Some pulse is on at `at` counts from the train's start. Only the last one that has started can be.
-    #[tactic(auto, unfolding(rules::specs::Switches::pulse_on, rules::specs::Words::some_of))]
+    #[tactic(auto, using(crate::proofs::Pulses::pulse_decided), unfolding(rules::specs::Switches::pulse_on, rules::specs::Words::some_of))]
     pub fn is_on(self, at: u16) -> bool
         ensures { result ≡ pulse_on self.length self.quantity self.count at }
     {
@@ -189,6 +192,7 @@ pub struct Moment {
 impl Moment {
     // What the pairs of a switch are tested with. Called, its structs would go through memory for each output.
     #[inline(always)]
+    #[tactic(auto, using(crate::proofs::Advance::one_bias))]
     fn displaced(self, l: &Limit) -> Displaced
         ensures { (result.sf ≡ self.sf) × (result.from ≡ taken_back (factor self.sf) (on_shift (factor self.sf) (c_value self.c) l.now) (count_at self.position)) × (result.spread ≡ spread_of (factor self.sf) (on_shift (factor self.sf) (c_value self.c) l.now -ℤ off_shift (factor self.sf) (c_value self.c) l.now)) }
     {
@@ -202,6 +206,7 @@ impl Moment {
     }
 
     // Pair k of a switch holds.
+    #[tactic(auto, using(crate::proofs::Pairs::pair_displaced))]
     pub fn pair_holds(self, l: &Limit, k: u16) -> bool
         ensures { result ≡ pair_holds (factor self.sf) (c_value self.c) l.now k self.position }
     {
@@ -209,6 +214,7 @@ impl Moment {
     }
 
     // Normal: some used pair holds.
+    #[tactic(auto, using(crate::proofs::Pairs::some_displaced))]
     pub fn normal_holds(self, l: &Limit) -> bool
         ensures { result ≡ normal_holds (factor self.sf) (c_value self.c) l.now self.position }
     {
@@ -216,7 +222,7 @@ impl Moment {
     }
 
     // A pulse switch: R from the unmoved pair, the train from the ON setpoint moved by the ON advance.
-    #[tactic(auto, unfolding(rules::specs::Switches::pulse_holds))]
+    #[tactic(auto, using(rules::proofs::Congruence::ahead_of_moved), unfolding(crate::specs::Parts::taken_back, rules::specs::Switches::pulse_holds))]
     fn pulse_holds(self, l: &Limit, quantity: u16, count: u16) -> bool
         ensures { result ≡ pulse_holds (factor self.sf) (c_value self.c) l.now quantity count self.position }
     {

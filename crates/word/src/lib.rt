@@ -45,6 +45,7 @@ fn reserved(layout: Layout) -> u16
 }
 
 // Some reserved bit of a word is set.
+#[tactic(auto, using(crate::proofs::Laws::and_packed, crate::proofs::Laws::some_packed), unfolding(rules::specs::Words::other_bit))]
 pub fn other_bit(w: u16, layout: Layout) -> bool
     ensures { result ≡ words.other_bit (named layout) w }
 {

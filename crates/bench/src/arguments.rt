@@ -11,7 +11,7 @@ pub enum Measure {
     FramesRead,
 }
 
-// The measure of a name.
+// The measure of a name. An Option, since a `TryFrom` would want an error that nothing reads.
 pub fn measure_of(name: u8) -> Option<Measure> {
     match name {
         b'a' => Some(Measure::Steps(Case::Full)),

@@ -23,7 +23,7 @@ pub struct GroupsAfter {
     pub isopen: [bool; 6],
 }
 
-// What group n, from 0, meets in a step.
+// What group n, from 0, meets in a step. Number and conditions stay two arguments: in `motion::level` the number is an input's.
 #[tactic(auto, unfolding(rules::specs::Groups::group_event))]
 fn event(w: Conditions, g: Group, n: u16) -> Event
     ensures { result ≡ groups.group_event w g n }

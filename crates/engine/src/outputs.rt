@@ -77,7 +77,7 @@ fn detector_holds(w: Conditions, d: Anded) -> bool
     }
 }
 
-// Output n, from 0, in a step: its program, and its group's position and openness.
+// Output n, from 0, in a step: its program, and its group's position and openness. Under 16 it is real, as 01 numbers them and says each rule by the half.
 #[derive(Clone, Copy)]
 struct Output<'a> {
     pub limit: &'a Limit,

@@ -192,7 +192,7 @@ fn dealt_to(groups: &[Group; 6], t: IoType, i: u16) -> Option<u16>
     None
 }
 
-// The number of the group that owns output n, counted from 0: 0 to 15 are real, 16 to 31 virtual.
+// The number of the group that owns output n, counted from 0: 0 to 15 are real, 16 to 31 virtual, as 01 numbers them.
 #[tactic(auto, unfolding(crate::specs::Blocks::owner_in))]
 fn owner(groups: &[Group; 6], n: u16) -> Option<u16>
     ensures { MatchOption result (blocks.owner_in groups.now n ≡ 0) (λ k. k ≡ blocks.owner_in groups.now n) }

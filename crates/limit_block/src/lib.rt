@@ -155,7 +155,7 @@ impl Block {
         advance_bad(self.words[1]) || advance_bad(self.words[2])
     }
 
-    // Pair k, from 0.
+    // Pair k, from 0, of a block's words; `switch` has that of a switch's setpoints.
     fn pair(self, k: u16) -> Pair
         ensures { result ≡ record { on = word self.words (2 * k + 3); off = word self.words (2 * k + 4) } }
     {
@@ -270,7 +270,7 @@ pub fn fifth_timed(file: &[u16], n: u16) -> bool
 
 // ---- The decoding
 
-// The module has output n, from 0.
+// The module has output n, from 0: under 16 a real one, as 01 numbers them. Model and number stay two arguments: `read` and `limit_from` count from 1.
 #[tactic(auto, unfolding(rules::specs::Switches::present, rules::specs::Variants::io_count))]
 fn present(m: Model, n: u16) -> bool
     ensures { result ≡ switches.present m n }

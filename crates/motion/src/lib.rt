@@ -37,7 +37,7 @@ pub fn real_inputs(m: Model, u: Setup, s: Sample) -> u16
     word::forced(present(m, IoType::Real), s.inputsoff, s.inputson, active)
 }
 
-// The level of input n of a type, from 0.
+// The level of input n of a type, from 0. A group's step has the number of a group beside the conditions.
 pub fn level(w: Conditions, kind: IoType, n: u16) -> bool
     ensures { result ≡ motion.level w kind n }
 {

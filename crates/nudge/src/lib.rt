@@ -84,7 +84,7 @@ impl Nudge {
         word::bit(self.word, n)
     }
 
-    // Refusal 9.
+    // Refusal 9. Bits 11 to 13 are tested one by one, as the rule has them.
     #[tactic(auto, unfolding(rules::specs::Nudge::nudge_output_bad))]
     fn output_bad(self, p: Programming) -> bool
         ensures { result ≡ nudge.nudge_output_bad p self.word }
@@ -115,7 +115,7 @@ impl Nudge {
         }
     }
 
-    // The switch with its pair nudged; none where refusal 10 comes.
+    // The switch with its pair nudged; none where refusal 10 comes. The pair is read at the index at which the nudged one is written.
     #[tactic(auto, using(crate::proofs::Laws::unused_bad, crate::proofs::Laws::on_bad, crate::proofs::Laws::off_bad, crate::proofs::Laws::pair_bad, crate::proofs::Laws::good), unfolding(rules::specs::Nudge::nudged_limit))]
     fn limit(self, sf: ScaleFactor, l: Limit) -> Option<Limit>
         ensures { MatchOption result

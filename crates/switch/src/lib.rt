@@ -82,7 +82,7 @@ fn count_at(p: Position) -> u16
     }
 }
 
-// Pair k of a switch's setpoints.
+// Pair k of a switch's setpoints. Not for a nudge, which writes where it reads, nor for a block, whose words are another array.
 fn pair(setpoints: &[u16; 16], k: u16) -> Pair
     ensures { (result.on ≡ get_or setpoints.now (2 * k) 0) × (result.off ≡ get_or setpoints.now (2 * k + 1) 0) }
 {

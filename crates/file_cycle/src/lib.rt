@@ -264,7 +264,6 @@ fn file_acts(kind: FileCycle, clear: bool, errors: u16, g: Configuration, file: 
 }
 
 // The acting cycle, on a file of the kind's length.
-#[tactic(auto)]
 fn act(kind: FileCycle, clear: bool, m: Module, file: &mut [u16]) -> CycleResult
     ensures { length file.old ≡ rule.file_length kind →
         (let d = rule.file_acts kind file.old (cycle.underway (Cycle.OfFile kind) clear m.configuration) in

@@ -1,7 +1,7 @@
 // The group blocks of M0: their checks, the bits of word 110, the programs that they give, and the dealing of outputs.
 #![tactic(auto)]
 
-ghost use Rattle.std.specs.Prelude.{◌≡◌, [], ◌∷◌, ◌+◌, ◌*◌, ltb, MatchOption};
+ghost use Rattle.std.specs.Prelude.{◌≡◌, [], ◌∷◌, ◌+◌, ◌*◌, ◌<◌, ltb, MatchOption};
 ghost use Rattle.rules.specs.Words as words;
 ghost use Rattle.rules.specs.Variants as variants;
 ghost use Rattle.rules.specs.GroupWords as group;
@@ -179,7 +179,7 @@ fn dealt_up_to(file: &[u16], t: IoType, n: u16) -> u32
 // The number of the group that takes output i of a type, counted from 0. The search is the rule, six shares in order; a map would only hold what it finds.
 #[tactic(auto, unfolding(rules::specs::GroupWords::dealt_to))]
 fn dealt_to(groups: &[Group; 6], t: IoType, i: u16) -> Option<u16>
-    ensures { MatchOption result (group.dealt_to t groups.now 1 i ≡ 0) (λ n. n ≡ group.dealt_to t groups.now 1 i) }
+    ensures { MatchOption result (group.dealt_to t groups.now 1 i ≡ 0) (λ n. (n ≡ group.dealt_to t groups.now 1 i) × (0 < n)) }
 {
     let mut left = i;
     for (k, g) in groups.iter().enumerate() {
@@ -195,7 +195,7 @@ fn dealt_to(groups: &[Group; 6], t: IoType, i: u16) -> Option<u16>
 // The number of the group that owns output n, counted from 0: 0 to 15 are real, 16 to 31 virtual, as 01 numbers them.
 #[tactic(auto, unfolding(crate::specs::Blocks::owner_in))]
 fn owner(groups: &[Group; 6], n: u16) -> Option<u16>
-    ensures { MatchOption result (blocks.owner_in groups.now n ≡ 0) (λ k. k ≡ blocks.owner_in groups.now n) }
+    ensures { MatchOption result (blocks.owner_in groups.now n ≡ 0) (λ k. (k ≡ blocks.owner_in groups.now n) × (0 < k)) }
 {
     if n < 16 {
         dealt_to(groups, IoType::Real, n)

@@ -11,7 +11,7 @@ pub returns-then-left-taken : goal.returns-then-left-taken
 returns-then-left-taken c =
     let l = c.loop-k in
     let within : l.k < length c.args.groups.now = omega arith in
-    sym (l.invariant ∙ dealt_here c.args.t c.args.groups.now l.k l.left no_group within (rw c.share-taken.ensures at c.if-left-taken.true))
+    (sym (l.invariant ∙ dealt_here c.args.t c.args.groups.now l.k l.left no_group within (rw c.share-taken.ensures at c.if-left-taken.true)), omega arith)
 
 pub loop-k-preserved : goal.loop-k-preserved
 loop-k-preserved c =

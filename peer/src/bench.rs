@@ -161,6 +161,7 @@ fn add(sum: u32, answer: &StepAnswer) -> u32 {
             u32::from(answer.machine_position.0) | u32::from(answer.tach) << 16,
             u32::from(answer.real_outputs) | u32::from(answer.virtual_outputs) << 16,
             readings | answer.changed << 21 | refused << 26,
+            u32::from(answer.tests),
         ],
     )
 }

@@ -9,8 +9,9 @@ use std::thread;
 use std::time::{Duration, Instant};
 
 use crate::generate::{
-    byte_list, cycle_list, damaged_trace, extreme_list, frame_list, length_list, press_list,
-    step_list, whole_trace, CallList, Extremes, Lengths, StopPresses, USUAL_SAMPLES, USUAL_STEPS,
+    byte_list, cycle_list, damaged_trace, extreme_list, frame_list, length_list, pair_test_list,
+    press_list, step_list, whole_trace, CallList, Extremes, Lengths, PairTests, StopPresses,
+    USUAL_SAMPLES, USUAL_STEPS,
 };
 
 /// Inputs compared at the same time.
@@ -28,6 +29,7 @@ pub enum InputKind {
     Presses,
     Extremes,
     Lengths,
+    Tests,
     Bytes,
     Frames,
     Traces,
@@ -42,6 +44,7 @@ impl InputKind {
             InputKind::Presses,
             InputKind::Extremes,
             InputKind::Lengths,
+            InputKind::Tests,
             InputKind::Bytes,
             InputKind::Frames,
             InputKind::Traces,
@@ -58,6 +61,7 @@ impl InputKind {
             InputKind::Presses => "presses",
             InputKind::Extremes => "extremes",
             InputKind::Lengths => "lengths",
+            InputKind::Tests => "tests",
             InputKind::Bytes => "bytes",
             InputKind::Frames => "frames",
             InputKind::Traces => "traces",
@@ -79,6 +83,10 @@ impl InputKind {
             }),
             InputKind::Lengths => Input::of_counted_list(&length_list(seed), |list| Counted {
                 lengths: Lengths::of_list(list),
+                ..Counted::default()
+            }),
+            InputKind::Tests => Input::of_counted_list(&pair_test_list(seed), |list| Counted {
+                tests: PairTests::of_list(list),
                 ..Counted::default()
             }),
             InputKind::Bytes => Input::of_list(&byte_list(seed)),
@@ -128,6 +136,7 @@ pub struct Counted {
     pub presses: StopPresses,
     pub extremes: Extremes,
     pub lengths: Lengths,
+    pub tests: PairTests,
 }
 
 impl Counted {
@@ -137,6 +146,7 @@ impl Counted {
         self.extremes.least += other.extremes.least;
         self.extremes.greatest += other.extremes.greatest;
         self.lengths.add(&other.lengths);
+        self.tests.add(&other.tests);
     }
 }
 
@@ -157,8 +167,8 @@ pub struct Totals {
 
 impl Totals {
     /// The last line of a comparison; it counts byte accesses, presses in the
-    /// steps of stops, ends of C or lengths, where the lists are made for
-    /// them.
+    /// steps of stops, ends of C, lengths or tests, where the lists are made
+    /// for them.
     pub fn line(&self, kind: InputKind) -> String {
         let counted = match kind {
             InputKind::Bytes => format!(", {} byte accesses", self.byte_accesses),
@@ -171,6 +181,7 @@ impl Totals {
                 format!(", {least} windows at the least C, {greatest} at the greatest")
             }
             InputKind::Lengths => format!(", {}", self.counted.lengths),
+            InputKind::Tests => format!(", {}", self.counted.tests),
             _ => String::new(),
         };
         format!(

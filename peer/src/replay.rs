@@ -271,7 +271,7 @@ fn write_step(answer: &StepAnswer, line: bool, output: &mut impl Write) -> io::R
     let [md1, md2] = answer.detectors.map(u8::from);
     writeln!(
         output,
-        "step {} {} {} {} {} {md1} {md2} {:04x} {:04x} {} {}",
+        "step {} {} {} {} {} {md1} {md2} {:04x} {:04x} {} {} {}",
         answer.refusal.map_or(0, |refusal| refusal.number()),
         answer.machine_position.0,
         answer.rpm,
@@ -280,6 +280,7 @@ fn write_step(answer: &StepAnswer, line: bool, output: &mut impl Write) -> io::R
         answer.real_outputs,
         answer.virtual_outputs,
         answer.changed,
-        u8::from(line)
+        u8::from(line),
+        answer.tests
     )
 }

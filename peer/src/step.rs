@@ -28,6 +28,8 @@ pub struct StepAnswer {
     pub virtual_outputs: u16,
     /// Virtual outputs changed since the previous step; 0 without SLCINT.
     pub changed: u32,
+    /// Pairs of setpoints tested, 0 to 256; 0 in a step answered 11.
+    pub tests: u16,
 }
 
 /// Bits 0 to 15 real, 16 to 31 virtual.
@@ -42,6 +44,18 @@ fn bit(set: u32, number: u16) -> bool {
 /// How many virtual outputs differ.
 fn changed_count(old: u16, new: u16) -> u32 {
     (old ^ new).count_ones()
+}
+
+/// Outputs whose LS Enable Input is active.
+fn enabled(inputs: u32) -> u32 {
+    let of_kind = |kind: Kind, outputs: u32| {
+        if bit(inputs, kind.first_bit() + LS_ENABLE) {
+            outputs
+        } else {
+            0
+        }
+    };
+    of_kind(Kind::Real, REAL) | of_kind(Kind::Virtual, VIRTUAL)
 }
 
 /// Off beats on.
@@ -70,18 +84,6 @@ impl StepView {
             turning: self.reading.rpm != 0,
             stop: self.stop,
         }
-    }
-
-    /// Outputs whose LS Enable Input is active.
-    fn enabled(&self) -> u32 {
-        let of_kind = |kind: Kind, outputs: u32| {
-            if bit(self.inputs, kind.first_bit() + LS_ENABLE) {
-                outputs
-            } else {
-                0
-            }
-        };
-        of_kind(Kind::Real, REAL) | of_kind(Kind::Virtual, VIRTUAL)
     }
 }
 
@@ -117,12 +119,16 @@ impl Module {
             reading: self.motion.reading,
             stop: updates.stop,
         };
+        let mut tests = 0;
         let lit = if self.setup.independent {
-            self.independent_outputs(&view)
+            self.independent_outputs(&view, &mut tests)
         } else {
-            self.group_outputs(&view)
+            self.group_outputs(&view, &mut tests)
         };
-        self.answer(sample, machine, view.reading, self.unblocked(lit, &view))
+        StepAnswer {
+            tests,
+            ..self.answer(sample, machine, view.reading, lit & !self.blocked(inputs))
+        }
     }
 
     fn fault_step(&mut self, sample: &[u16; SAMPLE_WORDS]) -> StepAnswer {
@@ -136,22 +142,22 @@ impl Module {
     }
 
     /// A real input is active where its current equals its active state.
-    fn active_inputs(&self, sample: &[u16; SAMPLE_WORDS]) -> u32 {
+    pub(crate) fn active_inputs(&self, sample: &[u16; SAMPLE_WORDS]) -> u32 {
         let [_, currents, virtual_inputs, on, off, ..] = *sample;
         let real = join(!(currents ^ self.setup.active_states), virtual_inputs);
         forced(real, join(on, 0), join(off, 0)) & self.present()
     }
 
-    /// Outputs whose switch holds, where a real one's own input is active.
-    fn independent_outputs(&mut self, view: &StepView) -> u32 {
+    /// Outputs whose switch holds; the pairs tested are counted.
+    fn independent_outputs(&mut self, view: &StepView, tests: &mut u16) -> u32 {
         let all = self.switches.programmed;
-        let position = view.machine.0;
-        self.switches.holding(all, position, self.setup.scale) & (view.inputs | VIRTUAL)
+        let scale = self.setup.scale;
+        self.switches.holding(all, view.machine.0, scale, tests)
     }
 
-    /// Outputs whose switch holds in an open group, where an ANDed LS Enable
-    /// Input is active.
-    fn group_outputs(&mut self, view: &StepView) -> u32 {
+    /// Outputs whose switch holds in an open group; the pairs tested are
+    /// counted.
+    fn group_outputs(&mut self, view: &StepView, tests: &mut u16) -> u32 {
         let scale = self.setup.scale;
         let mut lit = 0;
         for (index, group) in self.groups.iter_mut().enumerate() {
@@ -160,21 +166,30 @@ impl Module {
             let sample = view.for_group(index, group);
             let GroupPosition(position) = group.state.step(&group.program, sample, scale);
             self.group_positions[index] = position;
-            // Timed switches run on while their group is closed.
-            let holding = self.switches.holding(group.outputs, position, scale);
+            // Timed switches run on while their group is closed, and closed
+            // outputs are tested too.
+            let outputs = group.outputs;
+            let holding = self.switches.holding(outputs, position, scale, tests);
             if group.state.open {
                 lit |= holding;
             }
         }
-        lit & (view.enabled() | !self.switches.enable_anded)
+        lit
     }
 
-    /// Drops outputs ANDed with a motion detector that is off.
-    fn unblocked(&self, lit: u32, view: &StepView) -> u32 {
+    /// Outputs that are dark for their own real input in Independent Mode, for
+    /// LS Enable in Group Mode, or for a motion detector.
+    pub(crate) fn blocked(&self, inputs: u32) -> u32 {
+        let by_inputs = if self.setup.independent {
+            REAL & !inputs
+        } else {
+            self.switches.enable_anded & !enabled(inputs)
+        };
         let anded = self.switches.detector_anded.iter();
         anded
-            .zip(view.reading.detectors)
-            .fold(lit, |lit, (&anded, on)| if on { lit } else { lit & !anded })
+            .zip(self.motion.reading.detectors)
+            .filter(|(_, on)| !on)
+            .fold(by_inputs, |blocked, (anded, _)| blocked | anded)
     }
 
     /// Applies the output forces and counts the changed virtual outputs.
@@ -201,6 +216,7 @@ impl Module {
             real_outputs: outputs as u16,
             virtual_outputs,
             changed: if self.setup.interrupt { changed } else { 0 },
+            tests: 0,
         }
     }
 }

@@ -100,7 +100,7 @@ pub struct Switch {
     /// As programmed; pulse and timed switches use the first only.
     pub(crate) pairs: [Pair; PAIRS],
     /// ON and OFF advance in tenths of a ms.
-    advances: [i16; 2],
+    pub(crate) advances: [i16; 2],
     /// The used pairs in block order, moved by the advances at the present c.
     windows: [Window; PAIRS],
     used: usize,
@@ -186,19 +186,28 @@ impl Switch {
         self.timer = Timer::default();
     }
 
-    /// Whether the switch holds at a position; a timed switch's time runs.
-    pub fn holds(&mut self, position: u16, scale: u16) -> bool {
-        let windows = &self.windows[..self.used];
-        match self.action {
-            Action::Normal => windows.iter().any(|window| window.holds(position, scale)),
-            Action::Pulse { quantity, on_count } => windows.iter().any(|window| {
-                let distance = distance(window.start, position, scale);
-                pulse_holds(distance, window.length, quantity, on_count)
-            }),
-            Action::Timed { steps } => {
-                let holds = windows.iter().any(|window| window.holds(position, scale));
-                self.timer.step(holds, steps)
+    /// Whether some used pair holds at a position. They are tested in block
+    /// order up to the first that does; each test is counted.
+    pub(crate) fn some_pair_holds(&self, position: u16, scale: u16, tests: &mut u16) -> bool {
+        self.windows[..self.used].iter().any(|window| {
+            *tests += 1;
+            match self.action {
+                Action::Pulse { quantity, on_count } => {
+                    let distance = distance(window.start, position, scale);
+                    pulse_holds(distance, window.length, quantity, on_count)
+                }
+                Action::Normal | Action::Timed { .. } => window.holds(position, scale),
             }
+        })
+    }
+
+    /// Whether the switch holds at a position; a timed switch's time runs. The
+    /// pairs tested are counted.
+    pub fn holds(&mut self, position: u16, scale: u16, tests: &mut u16) -> bool {
+        let holds = self.some_pair_holds(position, scale, tests);
+        match self.action {
+            Action::Timed { steps } => self.timer.step(holds, steps),
+            Action::Normal | Action::Pulse { .. } => holds,
         }
     }
 
@@ -272,11 +281,12 @@ impl Switches {
         }
     }
 
-    /// Those of `outputs` whose switch holds at a position.
-    pub fn holding(&mut self, outputs: u32, position: u16, scale: u16) -> u32 {
+    /// Those of `outputs` whose switch holds at a position; the pairs tested
+    /// are counted.
+    pub fn holding(&mut self, outputs: u32, position: u16, scale: u16, tests: &mut u16) -> u32 {
         let mut holding = 0;
         for output in bits_of(outputs & self.programmed) {
-            if self.programs[output].holds(position, scale) {
+            if self.programs[output].holds(position, scale, tests) {
                 holding |= 1 << output;
             }
         }

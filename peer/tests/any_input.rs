@@ -120,6 +120,7 @@ fn random_calls_keep_the_answers_in_range() {
             assert!(answer.machine_position.0 < 1024);
             assert!(answer.rpm <= 150_000 && answer.tach <= 32767);
             assert!(answer.changed <= 16);
+            assert!(answer.tests <= if bad { 0 } else { 256 });
             let (on, off) = (words[5], words[6]);
             assert_eq!(answer.real_outputs & (off | !real), 0);
             assert_eq!(answer.real_outputs & on & !off, on & !off & real);

@@ -148,6 +148,7 @@ fn checksum(steps: &[Vec<String>]) -> u64 {
             decimal(2) + 65536 * decimal(4),
             hex(8) + 65536 * hex(9),
             8 * decimal(3) + flags + 2_097_152 * decimal(10) + refused,
+            decimal(12),
         ]
         .iter()
         .fold(sum, |sum, number| (31 * sum + number) % 4_294_967_296)
@@ -226,6 +227,7 @@ fn outputs_of_the_full_card_all_light() {
     }
     assert!(seen(3).len() > 10, "speeds");
     assert!(seen(10).len() > 3, "changed counts");
+    assert!(seen(12).len() > 30, "counts of tests");
     assert_eq!(seen(1).len(), 1);
 }
 

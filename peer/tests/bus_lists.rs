@@ -95,6 +95,15 @@ impl LineHistory {
     }
 }
 
+/// The field that has the line's level.
+fn level_field(line: &[String]) -> Option<usize> {
+    match line[0].as_str() {
+        "step" => Some(11),
+        "write" => Some(2),
+        _ => None,
+    }
+}
+
 #[test]
 fn line_is_up_exactly_when_the_request_says() {
     let mut levels = [0; 2];
@@ -103,13 +112,9 @@ fn line_is_up_exactly_when_the_request_says() {
         let mut history = LineHistory::default();
         for (place, (call, line)) in calls.iter().zip(answers(&calls)).enumerate() {
             history.call(place, call, &line);
-            if ["step", "write"].contains(&line[0].as_str()) {
+            if let Some(field) = level_field(&line) {
                 let level = usize::from(history.is_up());
-                assert_eq!(
-                    line.last(),
-                    Some(&level.to_string()),
-                    "call {place} {call:?}"
-                );
+                assert_eq!(line[field], level.to_string(), "call {place} {call:?}");
                 levels[level] += 1;
             }
         }
@@ -212,8 +217,8 @@ fn byte_accesses_are_no_event_for_anything_else() {
         lines
             .filter(|(_, call)| call[0] != 7 && call[0] != 8)
             .map(|(mut line, _)| {
-                if line[0] == "step" {
-                    line.pop();
+                if let Some(field) = level_field(&line) {
+                    line.remove(field);
                 }
                 line.join(" ")
             })

@@ -7,7 +7,10 @@ use std::time::{Duration, Instant};
 
 use common::{run_program, run_with_arguments};
 use peer::compare::{InputKind, Programs};
-use peer::generate::{extreme_list, length_list, press_list, Extremes, Lengths, StopPresses};
+use peer::generate::{
+    extreme_list, length_list, pair_test_list, press_list, Extremes, Lengths, PairTests,
+    StopPresses,
+};
 
 const REPLAY: &str = env!("CARGO_BIN_EXE_replay");
 const CAMRUN: &str = env!("CARGO_BIN_EXE_camrun");
@@ -166,6 +169,40 @@ fn lengths_are_counted() {
     );
     let least = [below_zero, zero, one, all_but_one, all, over_all];
     assert!(least.iter().all(|&count| count > 10_000), "{least:?}");
+}
+
+#[test]
+fn tests_are_counted() {
+    let mut tests = PairTests::default();
+    for seed in 1..=10 {
+        tests.add(&PairTests::of_list(&pair_test_list(seed)));
+    }
+    let PairTests {
+        at_most,
+        closed,
+        forced,
+        blocked,
+        never,
+        always,
+    } = tests;
+    assert_counted(
+        "tests",
+        &format!(
+            "{at_most} steps at 256, {closed} tests of closed outputs, {forced} of forced, \
+             {blocked} of blocked, {never} of pairs that never hold, {always} that always hold"
+        ),
+    );
+    let least = [at_most, closed, forced, blocked, never, always];
+    assert!(least.iter().all(|&count| count > 1000), "{least:?}");
+}
+
+/// Of ten lists: steps at 256 are those whose line ends so.
+#[test]
+fn steps_at_256_are_those_of_the_lines() {
+    let lines = (1..=10).flat_map(|seed| replay_lines(&["tests", &seed.to_string()]));
+    let full = lines.filter(|line| line.starts_with("step ") && line.ends_with(" 256"));
+    let counted = (1..=10).map(|seed| PairTests::of_list(&pair_test_list(seed)).at_most);
+    assert_eq!(full.count() as u64, counted.sum::<u64>());
 }
 
 /// The replay program's lines for a list.

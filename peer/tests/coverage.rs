@@ -4,8 +4,8 @@
 use std::collections::BTreeMap;
 
 use peer::generate::{
-    byte_list, cycle_list, extreme_list, frame_list, length_list, press_list, step_list, CallList,
-    USUAL_STEPS,
+    byte_list, cycle_list, extreme_list, frame_list, length_list, pair_test_list, press_list,
+    step_list, CallList, USUAL_STEPS,
 };
 use peer::replay;
 
@@ -181,7 +181,15 @@ fn lists_of_bytes_reach_every_answer() {
 
 #[test]
 fn lists_of_lengths_have_cycles_in_mid_run() {
-    let calls = answered((1..=60).map(length_list));
+    assert_cycles_in_mid_run(answered((1..=60).map(length_list)));
+}
+
+#[test]
+fn lists_of_tests_have_cycles_in_mid_run() {
+    assert_cycles_in_mid_run(answered((1..=80).map(pair_test_list)));
+}
+
+fn assert_cycles_in_mid_run(calls: Counts) {
     for (name, least) in [
         ("step 0", 200_000),
         ("step 11", 50),
@@ -220,6 +228,7 @@ fn a_seed_gives_one_list_and_another_seed_another() {
         press_list,
         extreme_list,
         length_list,
+        pair_test_list,
     ] {
         assert_eq!(list(7), list(7));
         assert_ne!(list(7).bytes(), list(8).bytes());
@@ -247,5 +256,6 @@ fn every_call_is_answered() {
         assert_answered(&press_list(seed));
         assert_answered(&extreme_list(seed));
         assert_answered(&length_list(seed));
+        assert_answered(&pair_test_list(seed));
     }
 }

@@ -67,6 +67,12 @@ fn lists_of_lengths_have_steps() {
 }
 
 #[test]
+fn lists_of_tests_have_steps() {
+    // Three runs, each of two times 400 steps or more.
+    assert!(steps(&answers(&["tests", "5"])) > 6 * 400);
+}
+
+#[test]
 fn lists_of_frames_have_both_calls() {
     // A seed whose list is not broken off.
     let text = answers(&["frames", "2"]);
@@ -79,7 +85,7 @@ fn lists_of_frames_have_both_calls() {
 
 #[test]
 fn lists_repeat() {
-    for kind in ["frames", "bytes", "presses", "extremes", "lengths"] {
+    for kind in ["frames", "bytes", "presses", "extremes", "lengths", "tests"] {
         let list = written(LISTS, &[kind, "9"]);
         assert_eq!(written(LISTS, &[kind, "9"]), list);
         assert_ne!(written(LISTS, &[kind, "10"]), list);
@@ -109,6 +115,7 @@ fn wrong_arguments_show_the_usage() {
         &["presses", "1", "2"],
         &["extremes", "1", "2"],
         &["lengths", "1", "2"],
+        &["tests", "1", "2"],
         &["bytes"],
         &["bytes", "1", "2"],
         &["steps", "1", "2", "3"],

@@ -17,7 +17,9 @@ fn held(words: &[u16], c: i32) -> Vec<u16> {
     block[..words.len()].copy_from_slice(words);
     let mut switch = Switch::decode(&block);
     switch.place(c, 1024);
-    (0..1024).filter(|&p| switch.holds(p, 1024)).collect()
+    (0..1024)
+        .filter(|&p| switch.holds(p, 1024, &mut 0))
+        .collect()
 }
 
 /// An advance of 24.0 ms moves by c counts at SF 1024.

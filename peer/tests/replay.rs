@@ -89,7 +89,7 @@ fn program_from_standard_input_to_output() {
     let list = bytes(&calls().power(8511).step(sample(5, 0, 0)).0);
     assert_eq!(
         common::run_program(env!("CARGO_BIN_EXE_replay"), &list),
-        "power 0\nstep 0 5 0 0 0 0 0 0000 0000 0 0\n"
+        "power 0\nstep 0 5 0 0 0 0 0 0000 0000 0 0 0\n"
     );
     assert_eq!(
         common::run_program(env!("CARGO_BIN_EXE_replay"), &[9, 9, 9]),
@@ -137,7 +137,7 @@ fn refused_power_up_keeps_the_module() {
         .step([1024, 0, 0, 0, 0, 0xffff, 0, 0, 0]);
     assert_eq!(
         list.lines(),
-        "power 0\nstep 0 9 0 0 0 0 0 00ff 0000 0 0\npower 3\nstep 11 9 0 0 0 0 0 00ff 0000 0 0\n"
+        "power 0\nstep 0 9 0 0 0 0 0 00ff 0000 0 0 0\npower 3\nstep 11 9 0 0 0 0 0 00ff 0000 0 0 0\n"
     );
 }
 
@@ -150,7 +150,7 @@ fn power_up_replaces_the_module() {
         .step(sample(7, 0, 0));
     assert_eq!(
         list.lines(),
-        "power 0\nstep 11 0 0 0 0 0 0 0000 0000 0 0\npower 0\nstep 0 7 0 0 0 0 0 0000 0000 0 0\n"
+        "power 0\nstep 11 0 0 0 0 0 0 0000 0000 0 0 0\npower 0\nstep 0 7 0 0 0 0 0 0000 0000 0 0 0\n"
     );
 }
 
@@ -194,7 +194,7 @@ fn group_lines() {
         format!(
             "power 0\n\
              group 0 2 00 0 0 0000 0000 0000 {zeros}\n\
-             step 0 100 0 0 0 0 0 0000 0000 0 0\n\
+             step 0 100 0 0 0 0 0 0000 0000 0 0 0\n\
              group idle 0 00 0 0 0000 0000 0000 {zeros}\n\
              group 7 2 02 0 0 0007 0001 006e {zeros}\n\
              group 1 2 02 0 0\n"
@@ -227,7 +227,7 @@ fn limit_and_nudge_lines() {
             "power 0\n\
              setup 0 1 00 0 0 {setup_zeros}\n\
              limit 0 5 00 0 0 0000 0000 {zeros}\n\
-             step 0 5 0 0 0 0 0 0000 0005 2 0\n\
+             step 0 5 0 0 0 0 0 0000 0005 2 0 2\n\
              nudge 9 d 08 0 0\n\
              nudge idle d 08 0 0\n\
              nudge idle 5 08 0 0\n\
@@ -236,7 +236,7 @@ fn limit_and_nudge_lines() {
              limit idle 9 08 0 1 0000 0000 {zeros}\n\
              limit 5 d 08 0 1 4000 0000 {zeros}\n\
              limit 2 d 08 0 1\n\
-             step 11 5 0 0 0 0 0 0000 0000 2 0\n\
+             step 11 5 0 0 0 0 0 0000 0000 2 0 0\n\
              nudge idle 5 08 1 1\n"
         )
     );
@@ -256,7 +256,7 @@ fn step_line_has_all_readings() {
     // 2519 × 511 mod 1024 is 41.
     assert_eq!(
         text.lines().last(),
-        Some("step 0 41 149648 32767 1 1 1 0000 8000 0 0")
+        Some("step 0 41 149648 32767 1 1 1 0000 8000 0 0 0")
     );
 }
 
@@ -305,7 +305,7 @@ fn byte_lines() {
         format!(
             "power 0\n\
              setup 0 1 00 0 0 {}\n\
-             step 0 7 0 0 0 0 0 0000 0003 0 0\n\
+             step 0 7 0 0 0 0 0 0000 0003 0 0 0\n\
              write 0 0\n\
              read 0 00\n\
              read 13 00\n",
@@ -367,15 +367,15 @@ fn the_line_in_the_lines() {
         lines,
         [
             "write 0 0",
-            "step 0 0 0 0 0 0 0 0000 0001 1 1",
-            "step 0 0 0 0 0 0 0 0000 0001 0 1",
+            "step 0 0 0 0 0 0 0 0000 0001 1 1 0",
+            "step 0 0 0 0 0 0 0 0000 0001 0 1 0",
             "write 14 1",
             "write 13 1",
             "write 0 0",
             "write 0 1",
-            "step 11 0 0 0 0 0 0 0000 0001 0 1",
+            "step 11 0 0 0 0 0 0 0000 0001 0 1 0",
             "write 0 0",
-            "step 11 0 0 0 0 0 0 0000 0003 1 1",
+            "step 11 0 0 0 0 0 0 0000 0003 1 1 0",
         ]
     );
 }
@@ -399,7 +399,7 @@ fn power_up_drops_request_and_mask() {
     let lines: Vec<&str> = text.lines().skip(3).collect();
     assert_eq!(
         lines.join("\n"),
-        "step 0 0 0 0 0 0 0 0000 0001 1 1\n\
+        "step 0 0 0 0 0 0 0 0000 0001 1 1 0\n\
          power 3\nread 0 01\nread 0 01\n\
          power 0\nread 0 00\nread 0 00\nread 0 00"
     );
@@ -486,8 +486,8 @@ fn frames_beside_a_module() {
         .step([2000, 0, 0, 0, 0, 0, 0, 0, 0]);
     assert_eq!(
         list.lines(),
-        "frame 15 0\nnone\npower 0\nstep 0 7 0 0 0 0 0 0000 0000 0 0\n\
-         data 17 0\nstep 11 7 0 0 0 0 0 0000 0000 0 0\n"
+        "frame 15 0\nnone\npower 0\nstep 0 7 0 0 0 0 0 0000 0000 0 0 0\n\
+         data 17 0\nstep 11 7 0 0 0 0 0 0000 0000 0 0 0\n"
     );
 }
 

@@ -25,7 +25,9 @@ fn block(kind: u16, advances: [i16; 2], words: &[u16]) -> [u16; 19] {
 fn held(block: &[u16; 19], c: i32, scale: u16) -> Vec<u16> {
     let mut switch = Switch::decode(block);
     switch.place(c, scale);
-    (0..scale).filter(|&p| switch.holds(p, scale)).collect()
+    (0..scale)
+        .filter(|&p| switch.holds(p, scale, &mut 0))
+        .collect()
 }
 
 /// The same for a normal switch of one pair at SF 1024.

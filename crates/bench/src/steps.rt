@@ -39,7 +39,8 @@ fn plus_answer(sum: u32, a: Answer) -> u32 {
     let position = a.position;
     let first = plus(sum, position.0 as u64 + 65536 * a.tach as u64);
     let second = plus(first, a.real as u64 + 65536 * a.virtuals as u64);
-    plus(second, readings(a))
+    let third = plus(second, readings(a));
+    plus(third, a.tests as u64)
 }
 
 // The checksum over the answers of so many steps.

@@ -228,6 +228,7 @@ typedef struct {
     uint16_t real;
     uint16_t virtuals;
     uint16_t changed; /* with SLCINT, how many virtual outputs changed */
+    uint16_t tests; /* how many pairs of setpoints the step tested, 0 to 256 */
 } chimneyrye_answer;
 
 /* A byte of the bus: 0 and its value, or the number of the refusal and 0. */

@@ -1,4 +1,4 @@
--- Laws of lists that a step cites: tables filled upwards and downwards by a loop.
+-- Laws of lists that a step cites: tables filled upwards and downwards by a loop, and the sum of one made downwards.
 -- Assumes nothing.
 use Prim.Native.Nat.{ℕ, suc, ◌+◌, ◌-◌, ◌<◌, ◌≤◌}
 use mathlib.Core.List.{List}
@@ -7,7 +7,9 @@ use native.Mathlib.Numerals.{add-one}
 use native.Mathlib.Omega.{arith}
 use lib.ListN.{length, get_or, take, drop, set, length-set}
 use lib.Seq.{take-suc, take-suc-set, take_all}
+use Rattle.std.specs.List.{sum}
 use Rattle.std.proofs.lemmas.List.{drop-set, drop_all}
+use Rattle.std.proofs.lemmas.List.Sums.{sum_by-cons}
 use Rattle.rules.specs.Words.{table}
 use Rattle.rules.proofs.Packing.{table_more}
 
@@ -54,3 +56,12 @@ module _ {A : Type 0} where
   down_all n k f xs h e =
       let z : n - 0 ≡ n = omega arith in
       rw z at (rw h at e.1)
+
+-- one number more of a sum made downwards
+pub sum_more : (n k : ℕ) (f : ℕ → ℕ) → 0 < k → k ≤ n → sum (table (n - k) k f) + f (k - 1) ≡ sum (table (n - (k - 1)) (k - 1) f)
+unfolding table
+sum_more n k f h l =
+    let m : n - (k - 1) ≡ suc (n - k) = omega arith in
+    let j : k - 1 + 1 ≡ k = omega arith in
+    let more = sum_by-cons (λ (x : ℕ). x) (f (k - 1)) (table (n - k) k f) in
+    rw (m, j) (omega (arith, more))

@@ -1,7 +1,7 @@
 -- Laws of an output before the forces: what the kind of its switch leaves of the rule.
 -- Assumes nothing.
 use Prim.Native.Nat.{ℕ, ◌+◌}
-use mathlib.Core.Bool.{Bool, true, false, ◌&&◌, ◌||◌, true≢false}
+use mathlib.Core.Bool.{Bool, true, false, ◌&&◌, ◌||◌, and-true, true≢false}
 use mathlib.Core.Path.{◌≡◌, refl}
 use native.Mathlib.Omega.{arith}
 use lib.Dec.{ltb}
@@ -16,7 +16,7 @@ use Rattle.rules.specs.declared.GroupPosition.{GroupPosition}
 use Rattle.rules.specs.declared.Conditions.{Conditions}
 use Rattle.rules.specs.Variants.{limit_switch}
 use Rattle.rules.specs.Motion.{c_value}
-use Rattle.rules.specs.Switches.{pair_holds, switch_holds, switch_position, passes, output_rule, timed_holds}
+use Rattle.rules.specs.Switches.{pair_holds, switch_holds, switch_position, passes, output_rule, timed_holds, switch_tests, output_tests}
 use Rattle.rules.specs.Card.{fresh_timed, timed_after, timed_now}
 
 -- ---- A switch's kind
@@ -36,7 +36,7 @@ unfolding switch_holds timed_after
 lasts t sf c l p x = grind (arith, nat_tests)
 
 -- another switch has no time
-no_time : (s : Switch) (sf : ℕ) (c : ℤ) (l : Limit) (p : Position) (lasting : Bool) → is_timed s ≡ false → switch_holds sf c l s p lasting ≡ switch_holds sf c l s p false
+no_time : (s : Switch) (sf : ℕ) (c : ℤ) (l : Limit) (p : Position) (lasting : Bool) → is_timed s ≡ false → switch_holds sf c l s p lasting ≡ switch_holds sf c l s p true
 unfolding switch_holds
 no_time Unprogrammed sf c l p lasting e = refl
 no_time Normal sf c l p lasting e = refl
@@ -55,6 +55,20 @@ module _ (w : Conditions) (l : Limit) (position : GroupPosition) where
   unfolding timed_now
   untimed_rests x h = fresh (limit_switch l) (timed_holds w l position) x h
 
+  -- the switch holds, a timed one as if its time lasted
+  abbrev pub held_here : Bool
+  held_here = switch_holds (w.top + 1) (c_value w.c) l (limit_switch l) (switch_position w position) true
+
+  -- that test makes a timed switch's state
+  pub timed_tested : (x : TimedState) (t : ℕ) → limit_switch l ≡ Timed t → timed_after (Timed t) held_here x ≡ timed_now w l position x
+  unfolding switch_holds timed_now timed_holds
+  timed_tested x t e = rw (e, and-true (timed_holds w l position))
+
+  -- an unprogrammed one takes none
+  pub none_tested : limit_switch l ≡ Unprogrammed → output_tests w l position ≡ 0
+  unfolding output_tests switch_tests
+  none_tested e = rw e
+
   module _ (isopen : Bool) (n : ℕ) where
     -- while a timed switch's time lasts, it is on as far as the rest of the rule lets it
     pub timed_on : (x : TimedState) (t : ℕ) → limit_switch l ≡ Timed t → output_rule w l position isopen (ltb 0 (timed_now w l position x).left) n ≡ (ltb 0 (timed_now w l position x).left && passes w l isopen n)
@@ -62,7 +76,7 @@ module _ (w : Conditions) (l : Limit) (position : GroupPosition) where
     timed_on x t e =
         rw (e, lasts t (w.top + 1) (c_value w.c) l (switch_position w position) x)
 
-    pub untimed_on : (lasting : Bool) → is_timed (limit_switch l) ≡ false → output_rule w l position isopen lasting n ≡ output_rule w l position isopen false n
+    pub untimed_on : (lasting : Bool) → is_timed (limit_switch l) ≡ false → output_rule w l position isopen lasting n ≡ (held_here && passes w l isopen n)
     unfolding output_rule
     untimed_on lasting h =
         rw (no_time (limit_switch l) (w.top + 1) (c_value w.c) l (switch_position w position) lasting h)

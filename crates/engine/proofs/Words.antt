@@ -1,20 +1,23 @@
 -- Laws of the two words of outputs: forces and missing outputs, applied to whole words, are those of each output.
 -- Assumes nothing.
-use Prim.Native.Nat.{ℕ, zero, suc, ◌+◌, ◌-◌, ◌/◌, ◌^◌, ◌<◌}
+use Prim.Native.Nat.{ℕ, zero, suc, ◌+◌, ◌-◌, ◌/◌, ◌^◌, ◌≤◌, ◌<◌}
 use mathlib.Core.Bool.{Bool, false, ◌&&◌, and-true}
-use mathlib.Core.Path.{◌≡◌, refl, ap, ◌∙◌}
+use mathlib.Core.Logic.{inl, inr}
+use mathlib.Core.Path.{◌≡◌, refl, sym, ap, ◌∙◌}
 use native.Mathlib.Nat.{zero-add}
 use native.Mathlib.Omega.{arith}
 use lib.Dec.{ltb}
 use lib.Bits.{bit_and}
 use lib.Pow.{shr-shr}
 use borrow.Author.Tests.{lt-ltb, le-ltb}
+use Rattle.std.proofs.lemmas.Bool.{cases_lt}
 use Rattle.rules.specs.declared.Model.{Model}
+use Rattle.rules.specs.declared.Model.TheVariants.{NoModule, M8511, M8512, M8513}
 use Rattle.rules.specs.declared.Sample.{Sample}
 use Rattle.rules.specs.Words.{bit, packed, word_of, forced}
 use Rattle.rules.specs.Variants.{real_count, virtual_count}
 use Rattle.rules.specs.Switches.{present, forced_off, forced_on, output_on, output_words}
-use Rattle.rules.proofs.Packing.{packed_bit, packed_same}
+use Rattle.rules.proofs.Packing.{packed_lt, packed_bit, packed_same}
 use Rattle.word.proofs.Laws.{and_bit, all_bits, bit_past}
 
 -- the lower and the higher digits of a number
@@ -36,6 +39,27 @@ packed_on (suc n) i j f =
 -- the word of the outputs of a type that a module has
 present_bit : (count n : ℕ) → n < 16 → bit (word_of 0 (λ k. ltb k count)) n ≡ ltb n count
 present_bit count n h = packed_bit 16 0 n (λ k. ltb k count) h ∙ ap (λ (k : ℕ). ltb k count) (zero-add n)
+
+-- a module has output n
+pub real_present : (m : Model) (n : ℕ) → n < 16 → bit (word_of 0 (λ k. ltb k (real_count m))) n ≡ present m n
+unfolding present
+real_present m n h = present_bit (real_count m) n h ∙ rw (lt-ltb n 16 h)
+
+few_virtual : (m : Model) → virtual_count m ≤ 16
+unfolding virtual_count
+few_virtual NoModule = omega arith
+few_virtual M8511 = omega arith
+few_virtual M8512 = omega arith
+few_virtual M8513 = omega arith
+
+pub virtual_present : (m : Model) (n : ℕ) → 16 ≤ n → bit (word_of 0 (λ k. ltb k (virtual_count m))) (n - 16) ≡ present m n
+unfolding present
+virtual_present m n h =
+    rw (le-ltb n 16 h)
+    (elim (cases_lt (n - 16) 16) [
+      | inl b ↦ present_bit (virtual_count m) (n - 16) b
+      | inr b ↦ bit_past _ (n - 16) 16 (packed_lt 16 0 _) b ∙ sym (le-ltb (n - 16) (virtual_count m) (omega (arith, few_virtual m)))
+    ])
 
 module _ (m : Model) (s : Sample) (rule : ℕ) where
   abbrev real_at : ℕ → Bool

@@ -1,6 +1,6 @@
 -- The two ways of a step, each for every module and sample; proofs/ shows which of them 01's step takes.
 -- Assumes nothing.
-use Rattle.std.specs.Prelude.{true, false}
+use Rattle.std.specs.Prelude.{ℕ, true, false}
 use Rattle.rules.specs.declared.Configuration.{Configuration}
 use Rattle.rules.specs.declared.SinceStart.{SinceStart}
 use Rattle.rules.specs.declared.State.{State}
@@ -9,8 +9,8 @@ use Rattle.rules.specs.declared.OutputWords.{OutputWords}
 use Rattle.rules.specs.declared.Answer.{Answer}
 use Rattle.rules.specs.Variants.{model_in}
 use Rattle.rules.specs.Motion.{fault_conditions, real_inputs}
-use Rattle.rules.specs.Switches.{output_words, answer_of}
-use Rattle.rules.specs.Card.{conditions_now, speed_now, rule_now, since_after, module_start, kept_after}
+use Rattle.rules.specs.Switches.{output_words, pair_tests, answer_of}
+use Rattle.rules.specs.Card.{conditions_now, speed_now, positions_now, rule_now, since_after, module_start, kept_after}
 use Rattle.engine.specs.declared.Change.{Change}
 
 -- the outputs where the rule decides, and where only a force lights one
@@ -20,10 +20,15 @@ ruled_outputs g x s = output_words (model_in g) s (rule_now g.programming (condi
 unfoldable pub dark_outputs : Configuration → Sample → OutputWords
 dark_outputs g s = output_words (model_in g) s (λ n. false)
 
+-- the pair tests of a step that is not answered 11
+unfoldable pub ruled_tests : Configuration → SinceStart → Sample → ℕ
+ruled_tests g x s =
+    pair_tests (model_in g) true g.programming (conditions_now g x s) (positions_now (conditions_now g x s) g.programming.groups x.groups)
+
 -- what a step answers that is not answered 11, and what it changes
 unfoldable pub sound_answer : Configuration → State → Sample → Answer
 sound_answer g x s =
-    answer_of g.programming.setup false (conditions_now g x.since s) x.kept.shown.virtuals (ruled_outputs g x.since s)
+    answer_of g.programming.setup false (conditions_now g x.since s) x.kept.shown.virtuals (ruled_outputs g x.since s) (ruled_tests g x.since s)
 
 unfoldable pub sound_change : Configuration → State → Sample → Change
 sound_change g x s = record {
@@ -39,7 +44,7 @@ sound_change g x s = record {
 -- and one that is
 unfoldable pub fault_answer : Configuration → State → Sample → Answer
 fault_answer g x s =
-    answer_of g.programming.setup true (fault_conditions g s x.kept.shown.position) x.kept.shown.virtuals (dark_outputs g s)
+    answer_of g.programming.setup true (fault_conditions g s x.kept.shown.position) x.kept.shown.virtuals (dark_outputs g s) 0
 
 unfoldable pub fault_change : Configuration → State → Sample → Change
 fault_change g x s = record {

@@ -47,8 +47,15 @@ fn changed_count(u: Setup, before: u16, after: u16) -> u16
 
 // What a step answers; one division makes the tachometer and TachOv.
 #[tactic(auto, unfolding(rules::specs::Switches::answer_of, rules::specs::Motion::tach_shown, rules::specs::Motion::tach_overflow))]
-pub fn answer_of(u: Setup, refused: bool, w: Conditions, before: u16, o: OutputWords) -> Answer
-    ensures { result ≡ switches.answer_of u refused w before o }
+pub fn answer_of(
+    u: Setup,
+    refused: bool,
+    w: Conditions,
+    before: u16,
+    o: OutputWords,
+    tests: u16,
+) -> Answer
+    ensures { result ≡ switches.answer_of u refused w before o tests }
 {
     let tach = motion::tach_value(u.scalars, w.rpm);
     Answer {
@@ -62,5 +69,6 @@ pub fn answer_of(u: Setup, refused: bool, w: Conditions, before: u16, o: OutputW
         real: o.real,
         virtuals: o.virtuals,
         changed: changed_count(u, before, o.virtuals),
+        tests,
     }
 }

@@ -7,10 +7,11 @@ mod groups;
 mod kept;
 mod outputs;
 
-ghost use Rattle.std.specs.Prelude.{◌≡◌, not, ◌&&◌, replicate, leb};
+ghost use Rattle.std.specs.Prelude.{◌≡◌, true, not, ◌&&◌, replicate, leb};
 ghost use Rattle.rules.specs.Words as words;
 ghost use Rattle.rules.specs.Cycle as cycle;
 ghost use Rattle.rules.specs.Calls as calls;
+ghost use Rattle.rules.specs.Switches as switches;
 ghost use Rattle.rules.specs.Card as card;
 ghost use Rattle.engine.specs.Parts.{sound_change, fault_change};
 
@@ -33,20 +34,21 @@ pub struct Change {
     pub answer: Answer,
 }
 
-// What a step leaves that is not answered 11, and its 32 outputs before the forces.
+// What a step leaves that is not answered 11, its 32 outputs before the forces, and its pair tests.
 #[derive(Clone, Copy)]
 struct Since {
     pub since: SinceStart,
     pub on: u32,
+    pub tests: u16,
 }
 
 // The groups and the outputs of a step that is not answered 11.
-#[tactic(auto, unfolding(rules::specs::Card::rule_now, rules::specs::Card::since_after))]
-fn since_after(p: Programming, w: Conditions, speed: Speed, x: SinceStart) -> Since
-    ensures { (result.since ≡ card.since_after p w speed x) × (result.on ≡ words.packed 32 0 (card.rule_now p w x)) }
+#[tactic(auto, unfolding(rules::specs::Card::rule_now, rules::specs::Card::since_after, rules::specs::Switches::pair_tests))]
+fn since_after(m: Model, p: Programming, w: Conditions, speed: Speed, x: SinceStart) -> Since
+    ensures { (result.since ≡ card.since_after p w speed x) × (result.on ≡ words.packed 32 0 (card.rule_now p w x)) × (result.tests ≡ switches.pair_tests m true p w (card.positions_now w p.groups x.groups)) }
 {
     let gs = groups_after(w, p.groups, x.groups);
-    let o = outputs_after(p, w, gs.positions, gs.isopen, x.timed);
+    let o = outputs_after(m, p, w, gs.positions, gs.isopen, x.timed);
     // An array is named before it goes into a struct: its proof asks for it.
     let groups = gs.states;
     let positions = gs.positions;
@@ -57,11 +59,15 @@ fn since_after(p: Programming, w: Conditions, speed: Speed, x: SinceStart) -> Si
         positions,
         timed,
     };
-    Since { since, on: o.on }
+    Since {
+        since,
+        on: o.on,
+        tests: o.tests,
+    }
 }
 
 // A step that is not answered 11. Module and sample are what a step takes, and stay two arguments in all of its functions.
-#[tactic(auto, using(crate::proofs::Words::words_packed), unfolding(crate::specs::Parts::ruled_outputs, crate::specs::Parts::sound_answer, crate::specs::Parts::sound_change, rules::specs::Card::conditions_now, rules::specs::Motion::conditions))]
+#[tactic(auto, using(crate::proofs::Words::words_packed), unfolding(crate::specs::Parts::ruled_outputs, crate::specs::Parts::ruled_tests, crate::specs::Parts::sound_answer, crate::specs::Parts::sound_change, rules::specs::Card::conditions_now, rules::specs::Motion::conditions))]
 fn sound_step(m: Module, s: Sample) -> Change
     ensures { result ≡ sound_change m.configuration m.state s }
 {
@@ -70,9 +76,11 @@ fn sound_step(m: Module, s: Sample) -> Change
     let x = m.state.since;
     let speed = speed_now(u, x.speed, s);
     let w = conditions_of(g, s, x.speed, speed);
-    let after = since_after(g.programming, w, speed, x);
-    let both = output_words(Model::from(g.model), s, after.on);
-    let answer = answer_of(u, false, w, m.state.kept.shown.virtuals, both);
+    let model = Model::from(g.model);
+    let after = since_after(model, g.programming, w, speed, x);
+    let both = output_words(model, s, after.on);
+    let before = m.state.kept.shown.virtuals;
+    let answer = answer_of(u, false, w, before, both, after.tests);
     let kept = kept_after(m.state.kept, answer, w.real);
     let state = State {
         since: after.since,
@@ -114,7 +122,7 @@ fn fault_step(m: Module, s: Sample) -> Change
     let last = before.shown.position;
     let w = fault_conditions(g, s, last);
     let forced = output_words(Model::from(g.model), s, 0);
-    let answer = answer_of(u, true, w, before.shown.virtuals, forced);
+    let answer = answer_of(u, true, w, before.shown.virtuals, forced, 0);
     let since = SinceStart {
         speed: Speed::FRESH,
         groups: [GroupState::FRESH; 6],

@@ -20,8 +20,8 @@ use Rattle.rules.specs.Switches.{moved, pulse_holds}
 use Rattle.rules.specs.LimitWords.{pulse_bad, pulses_touch}
 use Rattle.rules.specs.Card.{fresh_group}
 use Rattle.rules.specs.Cases.{Case, tach, speed, advance, pulses, fits, pair, group, tests, numbers, integers, Says}
-use Rattle.rules.specs.Cases.{cases, lettered, of_words, of_motion, of_groups, of_lengths, of_switches, of_cycles, of_setup, of_group_words, of_limit_words, of_nudge, of_reader, of_bus, of_trace}
-use Rattle.rules.specs.Cases.{flags, showing, bus_bits, write_bits, switch_at, positions_with, mode4_group, step_event, openings, some_setup, some_groups, three_switches}
+use Rattle.rules.specs.Cases.{cases, lettered, of_words, of_motion, of_groups, of_lengths, of_switches, of_tests, of_cycles, of_setup, of_group_words, of_limit_words, of_nudge, of_reader, of_bus, of_trace}
+use Rattle.rules.specs.Cases.{flags, showing, bus_bits, write_bits, switch_at, positions_with, mode4_group, step_event, openings, some_setup, some_groups, three_switches, some_unused}
 use Rattle.rules.proofs.Computes.{trace}
 
 -- ---- The test of a line, and what follows from it
@@ -54,7 +54,7 @@ right→says (integers given says) t = (pointwise_decides signed_Decides given s
 
 -- the whole table, computed
 all_right : list_all right cases ≡ true
-unfolding trace right cases lettered of_words of_motion of_groups of_lengths of_switches of_cycles of_setup of_group_words of_limit_words of_nudge of_reader of_bus of_trace flags showing bus_bits write_bits switch_at positions_with mode4_group step_event openings some_setup some_groups three_switches
+unfolding trace right cases lettered of_words of_motion of_groups of_lengths of_switches of_tests of_cycles of_setup of_group_words of_limit_words of_nudge of_reader of_bus of_trace flags showing bus_bits write_bits switch_at positions_with mode4_group step_event openings some_setup some_groups three_switches some_unused
 all_right = refl
 
 -- THE CASES: each line, 01's lettered ones first, holds of the definitions

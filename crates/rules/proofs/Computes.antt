@@ -24,7 +24,7 @@ use Rattle.rules.specs.Trace
 use Rattle.rules.specs.Reports
 
 words : Unit {0}
-unfolding Words.bit Words.packed Words.bytes_of Words.some_of Words.each_of Words.count_of Words.lowest_of Words.table Words.stored_at Words.other_bit Words.any_word Words.modulo Words.round_half_up Words.signed_word Words.differing xor
+unfolding Words.bit Words.packed Words.bytes_of Words.some_of Words.each_of Words.count_of Words.count_up_to Words.lowest_of Words.table Words.stored_at Words.other_bit Words.any_word Words.modulo Words.round_half_up Words.signed_word Words.differing xor
 words = tt
 
 variants : Unit {0}
@@ -44,7 +44,7 @@ unfolding Switches.advance_shift Switches.moved Switches.pair_length Switches.ho
 switches1 = tt
 
 switches2 : Unit {0}
-unfolding Switches.changed_count Switches.output_words Switches.answer_of
+unfolding Switches.switch_tests Switches.output_tests Switches.tests_at Switches.pair_tests Switches.changed_count Switches.output_words Switches.answer_of
 switches2 = tt
 
 cycles1 : Unit {0}
@@ -88,7 +88,7 @@ unfolding History.first_at History.edge_at History.first_edge_at History.stop_at
 past2 = tt
 
 past3 : Unit {0}
-unfolding History.since_group_start History.group_past History.position_in History.open_in History.positions_in History.openness_in History.pair_in History.since_limit_start History.held_at History.lasts History.lasts_in History.rule_in History.outputs_in History.last_position History.previous_virtuals History.expected_answer History.expected_answers
+unfolding History.since_group_start History.group_past History.position_in History.open_in History.positions_in History.openness_in History.pair_in History.since_limit_start History.held_at History.lasts History.lasts_in History.rule_in History.outputs_in History.tests_in History.last_position History.previous_virtuals History.expected_answer History.expected_answers
 past3 = tt
 
 bus : Unit {0}
@@ -108,7 +108,7 @@ unfolding Card.biased_movement Card.updates Card.window_sum Card.window_after Ca
 card1 = tt
 
 card2 : Unit {0}
-unfolding Card.left_position Card.open_now Card.groups_now Card.positions_now Card.openness_now Card.timed_after Card.timed_now Card.timed_of Card.rule_now Card.outputs_now Card.module_start Card.group_start Card.limit_start Card.start_of Card.since_after Card.fresh_module Card.powered_up Card.file_call Card.file_left Card.nudge_call
+unfolding Card.left_position Card.open_now Card.groups_now Card.positions_now Card.openness_now Card.timed_after Card.timed_now Card.timed_of Card.rule_now Card.outputs_now Card.tests_now Card.module_start Card.group_start Card.limit_start Card.start_of Card.since_after Card.fresh_module Card.powered_up Card.file_call Card.file_left Card.nudge_call
 card2 = tt
 
 card3 : Unit {0}

@@ -22,11 +22,11 @@ use Rattle.rules.specs.declared.OutputWords.{OutputWords}
 use Rattle.rules.specs.Words.{bit, round_half_up}
 use Rattle.rules.specs.Variants.{model_in, code_of, code_number}
 use Rattle.rules.specs.Motion.{divisor, tach_value, tach_shown, tach_overflow, fault_conditions, real_inputs}
-use Rattle.rules.specs.Switches.{present, forced_off, forced_on, output_on, changed_count, output_words, answer_of}
+use Rattle.rules.specs.Switches.{present, forced_off, forced_on, output_on, changed_count, pair_tests, output_words, answer_of}
 use Rattle.rules.specs.Cycle.{number_of}
 use Rattle.rules.specs.Bus.{shown_by, requested}
 use Rattle.rules.specs.Calls.{sound, step_configuration}
-use Rattle.rules.specs.Card.{module_start, outputs_now, since_now, step_answer, kept_after, step_state, step_call}
+use Rattle.rules.specs.Card.{module_start, outputs_now, tests_now, since_now, step_answer, kept_after, step_state, step_call}
 use Rattle.rules.proofs.Packing.{packed_bit}
 use Rattle.rules.proofs.Causes.{first_of, Exactly, exactly}
 
@@ -87,7 +87,8 @@ no_tach k = let h = divisor_some k (code_of k.code) in div-eq_of_lt (omega arith
 abbrev pub forced_only : Module → Sample → OutputWords
 forced_only m s = output_words (model_in m.configuration) s (λ n. false)
 
--- "reports the Machine Position of the last step since power-up not answered 11, else 0; rpm, tach and TachOv 0; detectors and unforced outputs off"
+-- "reports the Machine Position of the last step since power-up not answered 11, else 0; rpm, tach and TachOv 0; detectors and unforced outputs off"; 02: "In a step
+-- answered 11 the count is 0."
 pub fault_shows : (m : Module) (s : Sample) → step_number (step_call m s).answer ≡ 11
     → (step_call m s).answer ≡ record {
       refused = true;
@@ -100,8 +101,9 @@ pub fault_shows : (m : Module) (s : Sample) → step_number (step_call m s).answ
       real = (forced_only m s).real;
       virtuals = (forced_only m s).virtuals;
       changed = changed_count m.configuration.programming.setup m.state.kept.shown.virtuals (forced_only m s).virtuals;
+      tests = 0;
     }
-unfolding step_call step_answer answer_of outputs_now fault_conditions tach_shown tach_overflow
+unfolding step_call step_answer answer_of outputs_now tests_now pair_tests fault_conditions tach_shown tach_overflow
 fault_shows m s e = rw (unsound m s e, no_tach m.configuration.programming.setup.scalars)
 
 -- so each output that is not forced on is off

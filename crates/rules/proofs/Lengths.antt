@@ -15,8 +15,8 @@ use Rattle.rules.specs.declared.Advance.{Advance}
 use Rattle.rules.specs.declared.Limit.{Limit}
 use Rattle.rules.specs.declared.Position.{Position}
 use Rattle.rules.specs.Words.{modulo, count_of}
-use Rattle.rules.specs.Counts.{ahead, holds, used_pair}
-use Rattle.rules.specs.Switches.{advance_value, advance_shift, moved, count_at, on_setpoint, off_setpoint, on_shift, off_shift, pair_length, holds_for, pair_holds}
+use Rattle.rules.specs.Counts.{ahead, holds}
+use Rattle.rules.specs.Switches.{advance_value, advance_shift, moved, count_at, on_setpoint, off_setpoint, pair_used, on_shift, off_shift, pair_length, holds_for, pair_holds}
 use Rattle.rules.proofs.Laws.{modulo_below, ahead_below, ahead_up, ahead_round}
 use Rattle.rules.proofs.Congruence.{moved_apart}
 
@@ -41,12 +41,8 @@ moved_on sf c l k = moved sf (advance_value l.onadvance) c (on_setpoint l k)
 abbrev pub moved_off : ℕ → ℤ → Limit → ℕ → ℕ
 moved_off sf c l k = moved sf (advance_value l.offadvance) c (off_setpoint l k)
 
--- pair k is used, as programmed
-abbrev pub used : Limit → ℕ → Bool
-used l k = used_pair (on_setpoint l k) (off_setpoint l k)
-
 pub pair_signed : (t : ℕ) (c : ℤ) (l : Limit) (k : ℕ) (p : Position) →
-    pair_holds (t + 1) c l k p ≡ (used l k && lt_z (pos (ahead (t + 1) (moved_on (t + 1) c l k) (count_at p))) (pair_length (t + 1) c l k))
+    pair_holds (t + 1) c l k p ≡ (pair_used l k && lt_z (pos (ahead (t + 1) (moved_on (t + 1) c l k) (count_at p))) (pair_length (t + 1) c l k))
 unfolding pair_holds
 pair_signed t c l k p = rw (holds_signed t (pair_length (t + 1) c l k) (moved_on (t + 1) c l k) (count_at p))
 
@@ -58,11 +54,11 @@ below_positive a (negsuc n) h = absurd h.lt
 -- A pair holds exactly where it is used and its length is SF or more, or over 0 with the position less than that many counts ahead of the moved ON setpoint.
 pub pair_exactly : (t : ℕ) (c : ℤ) (l : Limit) (k : ℕ) (p : Position) →
     (pair_holds (t + 1) c l k p ≡ true)
-    ↔ ((used l k ≡ true)
+    ↔ ((pair_used l k ≡ true)
     × ((pos (t + 1) ≤ℤ pair_length (t + 1) c l k)
     ⊎ ((pos 0 <ℤ pair_length (t + 1) c l k) × (pos (ahead (t + 1) (moved_on (t + 1) c l k) (count_at p)) <ℤ pair_length (t + 1) c l k))))
 pair_exactly t c l k p = (
-  λ e. let b = and_parts (used l k) _ (sym (pair_signed t c l k p) ∙ e) in
+  λ e. let b = and_parts (pair_used l k) _ (sym (pair_signed t c l k p) ∙ e) in
       let h : pos a <ℤ z = lt_z_yes (T_from_true _ b.1) in
       (b.0, inr (below_positive a z h, h)),
   λ x. pair_signed t c l k p ∙ and_from _ _ x.0 (true_from_ne_false (lt_z (pos a) z) (λ e. rw e at (⊎_elim (λ more. <ℤ-≤ℤ_trans within more) (λ y. y.1) x.1).lt)),
@@ -84,7 +80,7 @@ never_holds t c l k p h =
     (λ e. ⊎_elim (λ more. clash_ℤ (<ℤ-≤ℤ_trans (lt_z_yes (lt→ltb 0 (t + 1) (omega arith))) more) h) (λ y. clash_ℤ y.0 h) ((pair_exactly t c l k p).0 e).1)
 
 -- "At SF or more it always holds."
-pub always_holds : (t : ℕ) (c : ℤ) (l : Limit) (k : ℕ) (p : Position) → used l k ≡ true → pos (t + 1) ≤ℤ pair_length (t + 1) c l k → pair_holds (t + 1) c l k p ≡ true
+pub always_holds : (t : ℕ) (c : ℤ) (l : Limit) (k : ℕ) (p : Position) → pair_used l k ≡ true → pos (t + 1) ≤ℤ pair_length (t + 1) c l k → pair_holds (t + 1) c l k p ≡ true
 always_holds t c l k p u h = (pair_exactly t c l k p).1 (u, inl h)
 
 -- ---- Where it is the formula of 01
@@ -96,12 +92,12 @@ unreduced t a (negsuc n) h k = absurd h.le
 
 -- From 0 to SF − 1 the length is that of the moved pair, and 01's formula of the moved pair tells it.
 pub within_a_turn : (t : ℕ) (c : ℤ) (l : Limit) (k : ℕ) (p : Position) → pos 0 ≤ℤ pair_length (t + 1) c l k → pair_length (t + 1) c l k <ℤ pos (t + 1) →
-    pair_holds (t + 1) c l k p ≡ (used l k && holds (t + 1) (moved_on (t + 1) c l k) (moved_off (t + 1) c l k) (count_at p))
+    pair_holds (t + 1) c l k p ≡ (pair_used l k && holds (t + 1) (moved_on (t + 1) c l k) (moved_off (t + 1) c l k) (count_at p))
 unfolding holds pair_length
 within_a_turn t c l k p h m =
     pair_signed t c l k p
     ∙ rw (moved_apart t (advance_value l.onadvance) (advance_value l.offadvance) c (on_setpoint l k) (off_setpoint l k))
-    (ap (λ (b : Bool). used l k && b) (unreduced t (ahead (t + 1) (moved_on (t + 1) c l k) (count_at p)) _ h m))
+    (ap (λ (b : Bool). pair_used l k && b) (unreduced t (ahead (t + 1) (moved_on (t + 1) c l k) (count_at p)) _ h m))
 
 -- With equal shifts the length is that of the pair as programmed.
 pub equal_length : (t : ℕ) (c : ℤ) (l : Limit) (k : ℕ) → on_shift (t + 1) c l ≡ off_shift (t + 1) c l → pair_length (t + 1) c l k ≡ pos (ahead (t + 1) (on_setpoint l k) (off_setpoint l k))
@@ -112,7 +108,7 @@ equal_length t c l k e =
 
 -- So with equal shifts it is 01's formula at every position,
 pub equal_shifts : (t : ℕ) (c : ℤ) (l : Limit) (k : ℕ) (p : Position) → on_shift (t + 1) c l ≡ off_shift (t + 1) c l →
-    pair_holds (t + 1) c l k p ≡ (used l k && holds (t + 1) (moved_on (t + 1) c l k) (moved_off (t + 1) c l k) (count_at p))
+    pair_holds (t + 1) c l k p ≡ (pair_used l k && holds (t + 1) (moved_on (t + 1) c l k) (moved_off (t + 1) c l k) (count_at p))
 equal_shifts t c l k p e =
     let z = equal_length t c l k e in
     within_a_turn t c l k p
@@ -121,7 +117,7 @@ equal_shifts t c l k p e =
 
 -- and with equal advances at every c.
 pub equal_advances : (t : ℕ) (c : ℤ) (l : Limit) (k : ℕ) (p : Position) → l.onadvance ≡ l.offadvance →
-    pair_holds (t + 1) c l k p ≡ (used l k && holds (t + 1) (moved_on (t + 1) c l k) (moved_off (t + 1) c l k) (count_at p))
+    pair_holds (t + 1) c l k p ≡ (pair_used l k && holds (t + 1) (moved_on (t + 1) c l k) (moved_off (t + 1) c l k) (count_at p))
 equal_advances t c l k p e = equal_shifts t c l k p (ap (λ (a : Advance). advance_shift (t + 1) (advance_value a) c) e)
 
 -- ---- At how many positions
@@ -186,7 +182,7 @@ unfolding moved
 moved_below t a c x = omega (arith, modulo_below (pos x -ℤ advance_shift (t + 1) a c) t)
 
 -- A used pair whose length is n, from 0 to SF, holds at exactly n of the SF positions, of the machine or of a group.
-pub held_counts : (t : ℕ) (c : ℤ) (l : Limit) (k n : ℕ) (at : ℕ → Position) → ((p : ℕ) → count_at (at p) ≡ p) → used l k ≡ true → pair_length (t + 1) c l k ≡ pos n → n ≤ t + 1
+pub held_counts : (t : ℕ) (c : ℤ) (l : Limit) (k n : ℕ) (at : ℕ → Position) → ((p : ℕ) → count_at (at p) ≡ p) → pair_used l k ≡ true → pair_length (t + 1) c l k ≡ pos n → n ≤ t + 1
     → count_of (t + 1) 0 (λ p. pair_holds (t + 1) c l k (at p)) ≡ n
 held_counts t c l k n at place u e h =
     count_same (t + 1) 0 _ (λ p. ltb (ahead (t + 1) (moved_on (t + 1) c l k) p) n) (λ p. pair_signed t c l k (at p) ∙ rw (u, place p, e))

@@ -3,6 +3,7 @@ pub mod Laws
 pub mod Congruence
 pub mod Lengths
 pub mod Packing
+pub mod Tests
 pub mod Past
 pub mod Stretch
 pub mod Windows

@@ -292,3 +292,19 @@ pub mode5_card :
     ≡ dark ∷ replicate 600 (0, 0, 3) ++ (lit ∷ (0, 0, 3) ∷ [])
 unfolding machine m0 m1 moving
 mode5_card = refl
+
+-- ---- A card that takes 256 pair tests
+
+-- the words of a block, n times
+pub blocks : ℕ → List ℕ → List ℕ
+blocks zero block = []
+blocks (suc n) block = block ++ blocks n block
+
+-- an 8513 in Independent Mode, of which each output is normal with eight pairs at 1/2: at 0 none holds, at 1 the first does; "In a step answered 11 the count is 0."
+pub full_card :
+    map (λ (a : Answer). a.tests)
+    (answers (fresh_module M8513)
+    (FileCall SetupCycle (m0 0x8201 []) ∷ FileCall LimitCycle (0x8000 ∷ 0 ∷ blocks 32 (0 ∷ 0 ∷ 0 ∷ blocks 8 (1 ∷ 2 ∷ [])) ++ replicate 40 0) ∷ at 0 0 ∷ at 1 0 ∷ at 5000 0 ∷ at 0 0 ∷ []))
+    ≡ 256 ∷ 32 ∷ 0 ∷ 0 ∷ []
+unfolding machine m0 blocks
+full_card = refl

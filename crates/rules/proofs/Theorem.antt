@@ -8,6 +8,7 @@ use native.Mathlib.Omega.{arith}
 use lib.ListN.{length}
 use lib.Dec.{ltb, eqb}
 use borrow.Author.Tests.{lt-ltb, le-ltb}
+use Rattle.std.specs.List.{sum}
 use Rattle.std.proofs.lemmas.Bool.{cases_Bool, cases_lt}
 use Rattle.rules.specs.declared.Model.{Model}
 use Rattle.rules.specs.declared.Programming.{Programming}
@@ -22,19 +23,19 @@ use Rattle.rules.specs.declared.Cycle.TheVariants.{OfFile, NudgeCycle}
 use Rattle.rules.specs.declared.Refusal.TheVariants.{NudgeOutput, NudgeSetpoint}
 use Rattle.rules.specs.declared.Decision.{Decision}
 use Rattle.rules.specs.declared.Answer.{Answer}
-use Rattle.rules.specs.Words.{bit, word_of, forced}
+use Rattle.rules.specs.Words.{bit, word_of, table, forced}
 use Rattle.rules.specs.Variants.{model_known, model_of}
 use Rattle.rules.specs.Groups.{no_position, of_group}
-use Rattle.rules.specs.Switches.{present, limit_of, owner_of, rule_at, forced_off, forced_on, output_on, output_words, answer_of}
+use Rattle.rules.specs.Switches.{present, limit_of, owner_of, rule_at, forced_off, forced_on, tests_at, pair_tests, output_on, output_words, answer_of}
 use Rattle.rules.specs.Motion.{scale_factor, conditions, fault_conditions}
 use Rattle.rules.specs.Cycle.{is_accepted, number_of, transmit_bit, stands, acts, underway, idle_cycle, cycle, turned_away, ignored_cycle, refused_cycle, accepted_cycle, judged}
 use Rattle.rules.specs.FileCycle.{file_length, length_refusal, data_refusal, barred, file_errors, brought, command, clears, file_acts, file_cycle}
 use Rattle.rules.specs.Nudge.{nudge_clear_bit, nudge_output, nudge_pair, nudge_output_bad, nudge_setpoint_bad, nudged_programming, nudge_acts, nudge_cycle}
 use Rattle.rules.specs.Bus.{shown_by}
 use Rattle.rules.specs.Calls.{Read, Write, Call, Step, FileCall, NudgeCall, ByteCall, fresh_configuration, sound, step_configuration, configuration_after}
-use Rattle.rules.specs.Card.{conditions_now, rule_now, outputs_now, module_start, group_start, limit_start, start_of, since_after, fresh_module, powered_up, file_call, nudge_call, since_now, step_answer, kept_after, step_state, step_call, write_call}
+use Rattle.rules.specs.Card.{conditions_now, rule_now, outputs_now, tests_now, module_start, group_start, limit_start, start_of, since_after, fresh_module, powered_up, file_call, nudge_call, since_now, step_answer, kept_after, step_state, step_call, write_call}
 use Rattle.rules.specs.Run.{accessed, module_after, run, answers, output_bit, EachStep}
-use Rattle.rules.specs.History.{configuration_of, programming_of, conditions_in, positions_in, openness_in, lasts_in, rule_in, outputs_in, last_position, previous_virtuals, expected_answer, expected_answers, is_module_start, last_raw, left_positions, acted, ignored_after, message_ignored}
+use Rattle.rules.specs.History.{configuration_of, programming_of, conditions_in, positions_in, openness_in, lasts_in, rule_in, outputs_in, tests_in, last_position, previous_virtuals, expected_answer, expected_answers, is_module_start, last_raw, left_positions, acted, ignored_after, message_ignored}
 use Rattle.rules.proofs.Packing.{packed_bit, packed_same}
 use Rattle.rules.proofs.Programs.{model_is}
 use Rattle.rules.proofs.OutputRule.{same_conditions, rule_alike}
@@ -80,6 +81,10 @@ module _ (model : Model) (l : List Call) (s : Sample) where
     real = packed_same 16 0 (output_on model s on_now) (output_on model s on_in) (λ k a b. output_is k (omega arith)) i;
     virtuals = packed_same 16 16 (output_on model s on_now) (output_on model s on_in) (λ k a b. output_is k (omega arith)) i;
   })
+
+  tests_are : tests_now g x s ≡ tests_in model l s
+  unfolding tests_now tests_in
+  tests_are = rw (model_is model l, conditions_in_lem, positions_in_lem model l x (agrees model l) s)
 
 -- ---- What runs since power-up
 
@@ -232,7 +237,7 @@ positions_are model (ByteCall (Write n v) ∷ l) = positions_are model l
 -- the latest call first: what a step after any list of calls answers is what 01 says of it
 pub history : (model : Model) (l : List Call) (s : Sample) → (step_call (run model l) s).answer ≡ expected_answer model l s
 unfolding step_call step_answer expected_answer
-history model l s = rw (configuration_is model l, outputs_are model l s, conditions_in_lem model l s, position_is model l, virtuals_are model l)
+history model l s = rw (configuration_is model l, outputs_are model l s, tests_are model l s, conditions_in_lem model l s, position_is model l, virtuals_are model l)
 
 -- the answers of the calls after `past`
 pub answers_from : (model : Model) (past calls : List Call) → answers (run model past) calls ≡ expected_answers model past calls
@@ -289,15 +294,37 @@ pub each_output : (model : Model) (l : List Call) (s : Sample) → OutputsRight 
 unfolding expected_answer answer_of outputs_in output_words output_on rule_in
 each_output model l s n b = ap (λ (a : Answer). output_bit a n) (history model l s) ∙ word_bit (output_on model s (on_in model l s)) n b
 
-each_from : (model : Model) (past calls : List Call) → EachStep (OutputsRight model) past (run model past) calls
-unfolding run
-each_from model past [] = tt
-each_from model past (Step s ∷ calls) = (each_output model past s, each_from model (Step s ∷ past) calls)
-each_from model past (FileCall kind file ∷ calls) = each_from model (FileCall kind file ∷ past) calls
-each_from model past (NudgeCall w ∷ calls) = each_from model (NudgeCall w ∷ past) calls
-each_from model past (ByteCall a ∷ calls) = each_from model (ByteCall a ∷ past) calls
+-- what is so of a step after every list of calls is so of each step in the order of time: for every number that power-up takes, whatever the place held
+module _ (model : Model) (P : List Call → Sample → Answer → Type 0) (each : (l : List Call) (s : Sample) → P l s (step_call (run model l) s).answer) where
+  each_from : (past calls : List Call) → EachStep P past (run model past) calls
+  unfolding run
+  each_from past [] = tt
+  each_from past (Step s ∷ calls) = (each past s, each_from (Step s ∷ past) calls)
+  each_from past (FileCall kind file ∷ calls) = each_from (FileCall kind file ∷ past) calls
+  each_from past (NudgeCall w ∷ calls) = each_from (NudgeCall w ∷ past) calls
+  each_from past (ByteCall a ∷ calls) = each_from (ByteCall a ∷ past) calls
+
+  every_from : (x : Module) (n : ℕ) → model_known n ≡ true → model_of n ≡ model → (calls : List Call) → EachStep P [] (powered_up x n).card calls
+  unfolding run
+  every_from x n k e calls = rw (powered_up_lem x n k, e) (each_from [] calls)
 
 -- the same in the order of time: for every number that power-up takes, whatever the place held, and every list of calls, of each step in it
 pub every_output : (x : Module) (n : ℕ) → model_known n ≡ true → (calls : List Call) → EachStep (OutputsRight (model_of n)) [] (powered_up x n).card calls
-unfolding run
-every_output x n k calls = rw (powered_up_lem x n k) (each_from (model_of n) [] calls)
+every_output x n k calls = every_from (model_of n) (OutputsRight (model_of n)) (each_output (model_of n)) x n k refl calls
+
+-- ---- By pair tests
+
+-- Of a step after the calls `l`, the latest first, and of its answer: the number of pair tests is the sum of what 02 counts of each of the 32 outputs, under the
+-- programming, c and positions that the list tells; 0 in a step answered 11.
+abbrev pub TestsRight : Model → List Call → Sample → Answer → Type 0
+TestsRight model l s a =
+    a.tests
+    ≡ cond (sound (configuration_of model l) s) (sum (table 32 0 (tests_at model (programming_of model l) (conditions_in model l s) (positions_in model l s)))) 0
+
+pub each_tests : (model : Model) (l : List Call) (s : Sample) → TestsRight model l s (step_call (run model l) s).answer
+unfolding expected_answer answer_of tests_in pair_tests
+each_tests model l s = ap (λ (a : Answer). a.tests) (history model l s)
+
+-- the same in the order of time
+pub every_tests : (x : Module) (n : ℕ) → model_known n ≡ true → (calls : List Call) → EachStep (TestsRight (model_of n)) [] (powered_up x n).card calls
+every_tests x n k calls = every_from (model_of n) (TestsRight (model_of n)) (each_tests (model_of n)) x n k refl calls

@@ -41,7 +41,7 @@ use Rattle.rules.specs.Words.{table, modulo}
 use Rattle.rules.specs.Variants.{model_known, model_of, model_in, group_mode, limit_switch}
 use Rattle.rules.specs.Motion.{turned, window_steps, short_steps, rpm_of, unbiased, biased_c, conditions, fault_conditions, real_inputs, scale}
 use Rattle.rules.specs.Groups.{no_group, dwell_holds, group_position, preset_shift, presets, edge, stops, running, is_open, group_event, of_group, no_position}
-use Rattle.rules.specs.Switches.{timed_steps, limit_of, owner_of, rule_at, timed_holds, output_words, answer_of}
+use Rattle.rules.specs.Switches.{timed_steps, limit_of, owner_of, rule_at, timed_holds, pair_tests, output_words, answer_of}
 use Rattle.rules.specs.Cycle.{outcome_of, is_accepted}
 use Rattle.rules.specs.FileCycle.{file_cycle, file_after}
 use Rattle.rules.specs.Nudge.{nudge_cycle}
@@ -210,6 +210,11 @@ rule_now p w x n =
 unfoldable pub outputs_now : Configuration → SinceStart → Sample → OutputWords
 outputs_now g x s = output_words (model_in g) s (λ n. sound g s && rule_now g.programming (conditions_now g x s) x n)
 
+-- the step's pair tests
+unfoldable pub tests_now : Configuration → SinceStart → Sample → ℕ
+tests_now g x s =
+    pair_tests (model_in g) (sound g s) g.programming (conditions_now g x s) (positions_now (conditions_now g x s) g.programming.groups x.groups)
+
 -- ---- Starts
 
 abbrev pub fresh_window : Window
@@ -302,6 +307,7 @@ step_answer g x s =
     (cond (sound g s) (conditions_now g x.since s) (fault_conditions g s x.kept.shown.position))
     x.kept.shown.virtuals
     (outputs_now g x.since s)
+    (tests_now g x.since s)
 
 -- what runs on since power-up, where a step has this answer and these active real inputs
 unfoldable pub kept_after : Kept → Answer → ℕ → Kept

@@ -25,11 +25,11 @@ use Rattle.rules.specs.declared.Configuration.{Configuration}
 use Rattle.rules.specs.declared.Shown.{Shown}
 use Rattle.rules.specs.declared.Bus.{Bus}
 use Rattle.rules.specs.Words.{digit, word, bits, word_of, bytes_of, table, stored_at, other_bit, any_word, signed_word, differing, forced}
-use Rattle.rules.specs.Variants.{group_mode, real_count, virtual_count, anded_of}
+use Rattle.rules.specs.Variants.{group_mode, real_count, virtual_count, limit_switch, anded_of}
 use Rattle.rules.specs.Counts.{ahead, holds}
 use Rattle.rules.specs.Motion.{real_input, turned, scaled_position, machine_position, window_steps, tach_shown, tach_overflow, rpm_of, detects, conditions, fault_conditions, biased_c}
 use Rattle.rules.specs.Groups.{group_position, group_event, is_open}
-use Rattle.rules.specs.Switches.{moved, pair_length, pair_holds, normal_holds, pulse_holds, present, admitted, enable_holds, detector_holds, output_words, changed_count, answer_of}
+use Rattle.rules.specs.Switches.{moved, pair_length, pair_holds, normal_holds, pulse_holds, present, admitted, enable_holds, detector_holds, switch_tests, tests_at, pair_tests, output_words, changed_count, answer_of}
 use Rattle.rules.specs.Cycle.{number_of, outcome_number, outcome_of, with_programming, error_of}
 use Rattle.rules.specs.SetupWords.{setup_errors, setup_of, no_programs}
 use Rattle.rules.specs.GroupWords.{group_of, owners_of, failing_group, group_errors}
@@ -239,6 +239,21 @@ unfoldable pub three_switches : Programming
 three_switches =
     with_limits (with_mode 0x8200) (switch_at 1 0 0 0 (table 16 0 (λ n. n + 10)) ∷ switch_at 2 3 4 0 (100 ∷ 120 ∷ []) ∷ switch_at 3 0 0 5 (100 ∷ 120 ∷ []) ∷ [])
 
+-- a normal switch with used pairs and unused ones
+unfoldable pub some_unused : Limit
+some_unused = switch_at 1 0 0 0 (0 ∷ 0 ∷ 10 ∷ 20 ∷ 0 ∷ 0 ∷ 30 ∷ 40 ∷ 0 ∷ 5 ∷ 0 ∷ 0 ∷ 50 ∷ 60 ∷ 900 ∷ 0 ∷ [])
+
+-- the pair tests of a switch at each of these positions
+abbrev pub tests_of : ℕ → ℤ → Limit → List ℕ → List ℕ
+tests_of sf c l positions = map (λ (p : ℕ). switch_tests sf c l (limit_switch l) (OfMachine (record { 0 = p }))) positions
+
+-- the programming with SF 1000 in Independent Mode of which each output has that switch, and one in Group Mode of which output 1 is dealt to group 1, output 2 to group 2
+abbrev pub all_unused : Programming
+all_unused = with_limits (with_mode 0x8200) (replicate 32 some_unused)
+
+abbrev pub dealt_unused : Programming
+dealt_unused = record { setup = (with_mode 0x8000).setup; groups = []; owners = 1 ∷ 2 ∷ []; limits = replicate 32 some_unused }
+
 -- the setpoints that a nudge leaves of a normal switch at 10/11, 12/13 and so on; whether it is 10 for a pair at on/off
 abbrev pub nudged_points : ℕ → List ℕ
 nudged_points w = (nudged_limit (switch_at 1 0 0 0 (table 16 0 (λ n. n + 10))) w).setpoints
@@ -249,7 +264,7 @@ nudge_is10 on off w = nudge_setpoint_bad 1000 (switch_at 1 0 0 0 (on ∷ off ∷
 -- the numbers of an answer, 11 or 0 first
 abbrev pub answer_numbers : Answer → List ℕ
 answer_numbers a =
-    cond a.refused (number_of Transducer) 0 ∷ a.position.0 ∷ a.rpm ∷ a.tach ∷ digit a.overflow ∷ digit a.md1 ∷ digit a.md2 ∷ a.real ∷ a.virtuals ∷ a.changed ∷ []
+    cond a.refused (number_of Transducer) 0 ∷ a.position.0 ∷ a.rpm ∷ a.tach ∷ digit a.overflow ∷ digit a.md1 ∷ digit a.md2 ∷ a.real ∷ a.virtuals ∷ a.changed ∷ a.tests ∷ []
 
 -- SUErr, GPErr, LSErr, I/DNum and I/DSet, and the word with these bits
 abbrev pub errors_of : Bool → Bool → Bool → Bool → Bool → Errors
@@ -400,11 +415,41 @@ of_switches =
     -- "with SLCINT set, how many virtual outputs changed .., else 0"
     ∷ numbers (changed_count (setup_by 0 0x8100 0) 0x8001 0x0003 ∷ changed_count (setup_by 0 0x8000 0) 0x8001 0x0003 ∷ []) (2 ∷ 0 ∷ [])
     -- the answer's parts in their places: rpm 300 with multiplier 17, divisor 18 and code 2 is tach 3
-    ∷ numbers (answer_numbers (answer_of (setup_by 0 0x8100 0) false (reads false 0 0 300 true false) 0x0001 (record { real = 7; virtuals = 0x0006 }))) (0 ∷ 500 ∷ 300 ∷ 3 ∷ 0 ∷ 1 ∷ 0 ∷ 7 ∷ 6 ∷ 3 ∷ [])
-    ∷ numbers (answer_numbers (answer_of (setup_by 0 0x8100 0) false (reads false 0 0 40000000 false true) 0x0001 (record { real = 7; virtuals = 0x0006 }))) (0 ∷ 500 ∷ 40000000 ∷ 32767 ∷ 1 ∷ 0 ∷ 1 ∷ 7 ∷ 6 ∷ 3 ∷ [])
+    ∷ numbers (answer_numbers (answer_of (setup_by 0 0x8100 0) false (reads false 0 0 300 true false) 0x0001 (record { real = 7; virtuals = 0x0006 }) 9)) (0 ∷ 500 ∷ 300 ∷ 3 ∷ 0 ∷ 1 ∷ 0 ∷ 7 ∷ 6 ∷ 3 ∷ 9 ∷ [])
+    ∷ numbers (answer_numbers (answer_of (setup_by 0 0x8100 0) false (reads false 0 0 40000000 false true) 0x0001 (record { real = 7; virtuals = 0x0006 }) 256)) (0 ∷ 500 ∷ 40000000 ∷ 32767 ∷ 1 ∷ 0 ∷ 1 ∷ 7 ∷ 6 ∷ 3 ∷ 256 ∷ [])
     -- 11: "the Machine Position of the last step ..; rpm, tach and TachOv 0; detectors .. off"; the count is that of its own outputs
-    ∷ numbers (answer_numbers (answer_of (setup_by 0 0x8100 0) true (fault_conditions (fresh_configuration M8513) (sample_of (2000 ∷ [])) (record { 0 = 77 })) 0x0003 (record { real = 0; virtuals = 0x0100 })))
-    (11 ∷ 77 ∷ 0 ∷ 0 ∷ 0 ∷ 0 ∷ 0 ∷ 0 ∷ 0x0100 ∷ 3 ∷ [])
+    ∷ numbers (answer_numbers (answer_of (setup_by 0 0x8100 0) true (fault_conditions (fresh_configuration M8513) (sample_of (2000 ∷ [])) (record { 0 = 77 })) 0x0003 (record { real = 0; virtuals = 0x0100 }) 0))
+    (11 ∷ 77 ∷ 0 ∷ 0 ∷ 0 ∷ 0 ∷ 0 ∷ 0 ∷ 0x0100 ∷ 3 ∷ 0 ∷ [])
+    ∷ []
+
+unfoldable pub of_tests : List Case
+of_tests =
+    -- 02: "A test is one used pair of a programmed normal output, in block order up to and including the first that holds": the first of five used ones to the last, and none
+    numbers (tests_of 1000 (pos 0) some_unused (10 ∷ 30 ∷ 0 ∷ 50 ∷ 999 ∷ 500 ∷ [])) (1 ∷ 2 ∷ 3 ∷ 4 ∷ 5 ∷ 5 ∷ [])
+    -- eight used pairs, of which the last holds, none, the first
+    ∷ numbers (tests_of 1000 (pos 0) (switch_at 1 0 0 0 (table 16 0 (λ n. n + 10))) (24 ∷ 500 ∷ 10 ∷ [])) (8 ∷ 8 ∷ 1 ∷ [])
+    -- two that hold together: the first ends it
+    ∷ numbers (tests_of 1000 (pos 0) (switch_at 1 0 0 0 (10 ∷ 20 ∷ 15 ∷ 25 ∷ [])) (12 ∷ 15 ∷ 22 ∷ [])) (1 ∷ 1 ∷ 2 ∷ [])
+    -- no used pair
+    ∷ numbers (tests_of 1000 (pos 0) (switch_at 1 0 0 0 (replicate 16 0)) (0 ∷ 500 ∷ [])) (0 ∷ 0 ∷ [])
+    -- "holds" is as it acts: moved by 20 counts from 100 and 300; with lengths under 0 never, and with lengths over SF always
+    ∷ numbers (tests_of 1024 (pos 48) (advanced (switch_at 1 0 0 0 (100 ∷ 200 ∷ 300 ∷ 310 ∷ [])) (early 100) (early 100)) (79 ∷ 80 ∷ 180 ∷ [])) (2 ∷ 1 ∷ 2 ∷ [])
+    ∷ numbers (tests_of 10 (pos 24576) (advanced (switch_at 1 0 0 0 (3 ∷ 5 ∷ 5 ∷ 8 ∷ [])) (early 0) (early 25)) (3 ∷ 5 ∷ [])) (2 ∷ 2 ∷ [])
+    ∷ numbers (tests_of 10 (pos 24576) (advanced (switch_at 1 0 0 0 (3 ∷ 5 ∷ 5 ∷ 8 ∷ [])) (early 18) (early 0)) (3 ∷ 9 ∷ [])) (1 ∷ 1 ∷ [])
+    -- "a timed or pulse output whose pair isn't 0/0 counts one", holding or not
+    ∷ numbers (tests_of 1000 (pos 0) (switch_at 2 3 4 0 (100 ∷ 120 ∷ [])) (0 ∷ 100 ∷ []) ++ tests_of 1000 (pos 0) (switch_at 3 0 0 5 (100 ∷ 120 ∷ [])) (0 ∷ 100 ∷ [])) (1 ∷ 1 ∷ 1 ∷ 1 ∷ [])
+    ∷ numbers (tests_of 1000 (pos 0) (switch_at 2 3 4 0 (0 ∷ 20 ∷ 5 ∷ 6 ∷ [])) (50 ∷ []) ++ tests_of 1000 (pos 0) (switch_at 3 0 0 5 (0 ∷ 20 ∷ 5 ∷ 6 ∷ [])) (50 ∷ [])) (1 ∷ 1 ∷ [])
+    ∷ numbers (tests_of 1000 (pos 0) (switch_at 2 3 4 0 (0 ∷ 0 ∷ 5 ∷ 6 ∷ [])) (0 ∷ []) ++ tests_of 1000 (pos 0) (switch_at 3 0 0 5 (0 ∷ 0 ∷ 5 ∷ 6 ∷ [])) (0 ∷ [])) (0 ∷ 0 ∷ [])
+    -- "missing or unprogrammed ones are not"
+    ∷ numbers (tests_of 1000 (pos 0) (switch_at 0 3 4 5 (100 ∷ 120 ∷ [])) (100 ∷ [])) (0 ∷ [])
+    ∷ numbers (map (tests_at M8513 three_switches (reads true 0 0 0 false false) []) (0 ∷ 1 ∷ 2 ∷ 3 ∷ [])) (8 ∷ 1 ∷ 1 ∷ 0 ∷ [])
+    ∷ numbers (map (tests_at M8512 all_unused (reads true 0 0 0 false false) []) (0 ∷ 7 ∷ 8 ∷ 15 ∷ 16 ∷ 31 ∷ [])) (5 ∷ 5 ∷ 0 ∷ 0 ∷ 5 ∷ 5 ∷ [])
+    -- a switch reads Group Position, here of groups 1 and 2 and of none, or Machine Position, 500
+    ∷ numbers (map (tests_at M8513 dealt_unused (reads false 0 0 0 false false) (record { 0 = 10 } ∷ record { 0 = 30 } ∷ [])) (0 ∷ 1 ∷ 2 ∷ [])) (1 ∷ 2 ∷ 3 ∷ [])
+    ∷ numbers (map (tests_at M8513 dealt_unused (reads true 0 0 0 false false) (record { 0 = 10 } ∷ record { 0 = 30 } ∷ [])) (0 ∷ 1 ∷ 2 ∷ [])) (5 ∷ 5 ∷ 5 ∷ [])
+    -- all outputs of each model; "In a step answered 11 the count is 0."
+    ∷ numbers (map (λ (m : Model). pair_tests m true all_unused (reads true 0 0 0 false false) []) (NoModule ∷ M8511 ∷ M8512 ∷ M8513 ∷ [])) (0 ∷ 80 ∷ 120 ∷ 160 ∷ [])
+    ∷ numbers (map (λ (m : Model). pair_tests m false all_unused (reads true 0 0 0 false false) []) (M8511 ∷ M8512 ∷ M8513 ∷ [])) (0 ∷ 0 ∷ 0 ∷ [])
     ∷ []
 
 unfoldable pub of_cycles : List Case
@@ -569,7 +614,7 @@ flags f = record {
 -- what a step showed whose answer and inputs are these numbers, its bits as f says
 unfoldable pub showing : (ℕ → Bool) → List ℕ → Shown
 showing f ws =
-    shown_by (record { refused = false; position = record { 0 = word ws 0 }; rpm = 0x9999; tach = word ws 1; overflow = f 10; md1 = f 8; md2 = f 9; real = word ws 2; virtuals = word ws 3; changed = 0x99 }) (word ws 4)
+    shown_by (record { refused = false; position = record { 0 = word ws 0 }; rpm = 0x9999; tach = word ws 1; overflow = f 10; md1 = f 8; md2 = f 9; real = word ws 2; virtuals = word ws 3; changed = 0x99; tests = 0x99 }) (word ws 4)
 
 unfoldable pub bus_bits : Bus → List Bool
 bus_bits b = b.request ∷ b.mask ∷ []
@@ -624,7 +669,7 @@ of_trace =
 
 -- THE TABLE
 unfoldable pub cases : List Case
-cases = lettered ++ of_words ++ of_motion ++ of_groups ++ of_lengths ++ of_switches ++ of_cycles ++ of_setup ++ of_group_words ++ of_limit_words ++ of_nudge ++ of_reader ++ of_bus ++ of_trace
+cases = lettered ++ of_words ++ of_motion ++ of_groups ++ of_lengths ++ of_switches ++ of_tests ++ of_cycles ++ of_setup ++ of_group_words ++ of_limit_words ++ of_nudge ++ of_reader ++ of_bus ++ of_trace
 
 -- what a line says of the definitions
 abbrev pub Says : Case → Type 0

@@ -27,7 +27,7 @@ use Rattle.rules.specs.Variants.{group_mode, limit_switch}
 use Rattle.rules.specs.Counts.{ahead}
 use Rattle.rules.specs.Motion.{scale_factor, turned, machine_at, movement, window_steps, short_steps, rpm_of, biased_c, conditions, fault_conditions}
 use Rattle.rules.specs.Groups.{group_at, dwell_holds, group_position, presets, edge, stops, running, group_event, of_group, no_position}
-use Rattle.rules.specs.Switches.{timed_steps, limit_of, owner_of, timed_holds, rule_at, output_words, answer_of}
+use Rattle.rules.specs.Switches.{timed_steps, limit_of, owner_of, timed_holds, rule_at, pair_tests, output_words, answer_of}
 use Rattle.rules.specs.Cycle.{number_of, outcome_number, is_accepted}
 use Rattle.rules.specs.FileCycle.{file_cycle}
 use Rattle.rules.specs.Nudge.{nudge_cycle}
@@ -333,6 +333,11 @@ rule_in model l s n = rule_at (programming_of model l) (conditions_in model l s)
 unfoldable pub outputs_in : Model → List Call → Sample → OutputWords
 outputs_in model l s = output_words model s (λ n. sound (configuration_of model l) s && rule_in model l s n)
 
+-- 02: "the number of pair tests in each step's answer"
+unfoldable pub tests_in : Model → List Call → Sample → ℕ
+tests_in model l s =
+    pair_tests model (sound (configuration_of model l) s) (programming_of model l) (conditions_in model l s) (positions_in model l s)
+
 -- "the Machine Position of the last step since power-up not answered 11, else 0"
 unfoldable pub last_position : Model → List Call → MachinePosition
 last_position model [] = record { 0 = 0 }
@@ -356,6 +361,7 @@ expected_answer model l s =
     (cond (sound (configuration_of model l) s) (conditions_in model l s) (fault_conditions (configuration_of model l) s (last_position model l)))
     (previous_virtuals model l)
     (outputs_in model l s)
+    (tests_in model l s)
 
 -- what the steps of a list of calls in the order of time answer; `past` are the calls before it, the latest first
 unfoldable pub expected_answers : Model → List Call → List Call → List Answer

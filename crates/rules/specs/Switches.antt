@@ -1,6 +1,6 @@
 -- 01, "Limit switches": advances, the three types of switch, the output rule. No past.
 -- Assumes nothing.
-use Rattle.std.specs.Prelude.{ℕ, ◌+◌, ◌-◌, ◌*◌, ◌/◌, Bool, true, false, cond, not, ◌&&◌, ◌||◌, List, [], get_or, replicate, ltb, leb, eqb, ℤ, pos, neg_ℤ, ◌+ℤ◌, ◌-ℤ◌, ◌*ℤ◌}
+use Rattle.std.specs.Prelude.{ℕ, ◌+◌, ◌-◌, ◌*◌, ◌/◌, Bool, true, false, cond, not, ◌&&◌, ◌||◌, List, [], get_or, replicate, sum, ltb, leb, eqb, ℤ, pos, neg_ℤ, ◌+ℤ◌, ◌-ℤ◌, ◌*ℤ◌}
 use Rattle.std.specs.Int.Signed.{quot_z, lt_z, le_z}
 use Rattle.rules.specs.declared.GroupPosition.{GroupPosition}
 use Rattle.rules.specs.declared.Position.{Position}
@@ -21,7 +21,7 @@ use Rattle.rules.specs.declared.Answer.{Answer}
 use Rattle.rules.specs.declared.Sample.{Sample}
 use Rattle.rules.specs.declared.Conditions.{Conditions}
 use Rattle.rules.specs.declared.OutputWords.{OutputWords}
-use Rattle.rules.specs.Words.{bit, word_of, modulo, some_of, differing, forced}
+use Rattle.rules.specs.Words.{bit, digit, word_of, modulo, some_of, count_up_to, table, differing, forced}
 use Rattle.rules.specs.Variants.{real_count, virtual_count, limit_switch, anded_of}
 use Rattle.rules.specs.Counts.{ahead, used_pair}
 use Rattle.rules.specs.Motion.{tach_shown, tach_overflow, c_value, scale, level, enable_input}
@@ -54,6 +54,10 @@ on_setpoint l k = get_or l.setpoints (2 * k) 0
 abbrev pub off_setpoint : Limit → ℕ → ℕ
 off_setpoint l k = get_or l.setpoints (2 * k + 1) 0
 
+-- pair k of a switch is used
+abbrev pub pair_used : Limit → ℕ → Bool
+pair_used l k = used_pair (on_setpoint l k) (off_setpoint l k)
+
 -- s of a switch's ON setpoints, and of its OFF setpoints
 abbrev pub on_shift : ℕ → ℤ → Limit → ℤ
 on_shift sf c l = advance_shift sf (advance_value l.onadvance) c
@@ -72,7 +76,7 @@ holds_for sf size start p = cond (le_z size (pos 0)) false (cond (le_z (pos sf) 
 -- pair k of a switch holds; "0/0 pairs are as before"
 unfoldable pub pair_holds : ℕ → ℤ → Limit → ℕ → Position → Bool
 pair_holds sf c l k p =
-    used_pair (on_setpoint l k) (off_setpoint l k)
+    pair_used l k
     && holds_for sf (pair_length sf c l k) (moved sf (advance_value l.onadvance) c (on_setpoint l k)) (count_at p)
 
 -- "Normal: some used pair holds"
@@ -90,7 +94,7 @@ pulse_on r q k at = some_of q 0 (λ j. leb (pulse_start r q k j) at && ltb at (p
 -- "Pulse: R = (off − on) mod SF unmoved, .. from the ON setpoint moved by the ON advance"
 unfoldable pub pulse_holds : ℕ → ℤ → Limit → ℕ → ℕ → Position → Bool
 pulse_holds sf c l q k p =
-    used_pair (on_setpoint l 0) (off_setpoint l 0)
+    pair_used l 0
     && pulse_on (ahead sf (on_setpoint l 0) (off_setpoint l 0)) q k (ahead sf (moved sf (advance_value l.onadvance) c (on_setpoint l 0)) (count_at p))
 
 -- The switch holds. `lasting` says of a timed one that "fewer than 5 × T steps have passed since it began to hold".
@@ -168,6 +172,29 @@ rule_at p w positions isopen lasting n =
 unfoldable pub timed_holds : Conditions → Limit → GroupPosition → Bool
 timed_holds w l position = pair_holds (scale w) (c_value w.c) l 0 (switch_position w position)
 
+-- ---- How much work a step does
+
+-- 02: "A test is one used pair of a programmed normal output, in block order up to and including the first that holds; a timed or pulse output whose pair isn't 0/0
+-- counts one. .. missing or unprogrammed ones are not."
+unfoldable pub switch_tests : ℕ → ℤ → Limit → Switch → Position → ℕ
+switch_tests sf c l Unprogrammed p = 0
+switch_tests sf c l Normal p = count_up_to 8 0 (pair_used l) (λ k. pair_holds sf c l k p)
+switch_tests sf c l (Pulse q k) p = digit (pair_used l 0)
+switch_tests sf c l (Timed t) p = digit (pair_used l 0)
+
+-- of an output with the program l, whose group is at `position`. "Outputs that are forced, closed or blocked are tested too": neither a force nor an openness nor
+-- what is ANDed is asked.
+unfoldable pub output_tests : Conditions → Limit → GroupPosition → ℕ
+output_tests w l position = switch_tests (scale w) (c_value w.c) l (limit_switch l) (switch_position w position)
+
+-- of output n of a card, where the six groups' positions are these: "and missing .. ones are not"
+unfoldable pub tests_at : Model → Programming → Conditions → List GroupPosition → ℕ → ℕ
+tests_at model p w positions n = cond (present model n) (output_tests w (limit_of p n) (of_group no_position positions (owner_of p n))) 0
+
+-- "the number of pair tests in each step's answer", of a step that is sound or answered 11: "In a step answered 11 the count is 0."
+unfoldable pub pair_tests : Model → Bool → Programming → Conditions → List GroupPosition → ℕ
+pair_tests model ok p w positions = cond ok (sum (table 32 0 (tests_at model p w positions))) 0
+
 -- the forces of an output
 abbrev pub forced_off : Sample → ℕ → Bool
 forced_off s n = cond (ltb n 16) (bit s.realoff n) (bit s.virtualoff (n - 16))
@@ -189,9 +216,10 @@ changed_count u before after = cond u.interrupt (differing before after) 0
 unfoldable pub output_words : Model → Sample → (ℕ → Bool) → OutputWords
 output_words model s rule = record { real = word_of 0 (output_on model s rule); virtuals = word_of 16 (output_on model s rule) }
 
--- "A step answers Machine Position, rpm, tach, TachOv, detectors, both output words and .. how many virtual outputs changed"; rpm 0 gives tach and TachOv 0
-unfoldable pub answer_of : Setup → Bool → Conditions → ℕ → OutputWords → Answer
-answer_of u refused w before outputs = record {
+-- "A step answers Machine Position, rpm, tach, TachOv, detectors, both output words and .. how many virtual outputs changed"; rpm 0 gives tach and TachOv 0.
+-- 02: "the number of pair tests in each step's answer"
+unfoldable pub answer_of : Setup → Bool → Conditions → ℕ → OutputWords → ℕ → Answer
+answer_of u refused w before outputs tests = record {
   refused = refused;
   position = w.machine;
   rpm = w.rpm;
@@ -202,4 +230,5 @@ answer_of u refused w before outputs = record {
   real = outputs.real;
   virtuals = outputs.virtuals;
   changed = changed_count u before outputs.virtuals;
+  tests = tests;
 }

@@ -46,6 +46,11 @@ unfoldable pub count_of : ℕ → ℕ → (ℕ → Bool) → ℕ
 count_of zero i f = 0
 count_of (suc n) i f = digit (f i) + count_of n (i + 1) f
 
+-- at how many of them, in order up to and including the first at which `ends` is
+unfoldable pub count_up_to : ℕ → ℕ → (ℕ → Bool) → (ℕ → Bool) → ℕ
+count_up_to zero i f ends = 0
+count_up_to (suc n) i f ends = digit (f i) + cond (ends i) 0 (count_up_to n (i + 1) f ends)
+
 -- the lowest of the n numbers from i on with f; 0 if there is none
 unfoldable pub lowest_of : ℕ → ℕ → (ℕ → Bool) → ℕ
 lowest_of zero i f = 0

@@ -420,7 +420,7 @@ pub struct CycleResult {
     pub outcome: Outcome,
 }
 
-// What a step answers. `refused` is set where it was answered 11.
+// What a step answers. `refused` is set where it was answered 11; `tests` is the number of pair tests.
 #[repr(C)]
 #[derive(Clone, Copy)]
 pub struct Answer {
@@ -434,6 +434,7 @@ pub struct Answer {
     pub real: u16,
     pub virtuals: u16,
     pub changed: u16,
+    pub tests: u16,
 }
 
 // The two words of outputs that a step answers.

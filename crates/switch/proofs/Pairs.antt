@@ -10,18 +10,24 @@ use lib.IntN.{ℤ, pos, negsuc, neg_ℤ, sub_ℕ, ◌+ℤ◌, ◌-ℤ◌, +ℤ_a
 use lib.Signed.{lt_z}
 use Rattle.rules.specs.declared.Limit.{Limit}
 use Rattle.rules.specs.declared.Position.{Position}
-use Rattle.rules.specs.Words.{some_of}
+use Rattle.rules.specs.declared.Switch.TheVariants.{Normal}
+use Rattle.rules.specs.Words.{some_of, count_up_to}
 use Rattle.rules.specs.Counts.{ahead}
-use Rattle.rules.specs.Switches.{advance_value, count_at, on_setpoint, off_setpoint, on_shift, off_shift, pair_length, pair_holds, normal_holds}
+use Rattle.rules.specs.Switches.{advance_value, count_at, on_setpoint, off_setpoint, pair_used, on_shift, off_shift, pair_length, pair_holds, normal_holds, switch_tests}
 use Rattle.rules.proofs.Laws.{ahead_below}
 use Rattle.rules.proofs.Congruence.{ahead_of_moved}
-use Rattle.rules.proofs.Lengths.{used, pair_signed}
-use Rattle.switch.specs.Parts.{taken_back, spread_of, pair_at, pair_of, some_pair}
+use Rattle.rules.proofs.Lengths.{pair_signed}
+use Rattle.switch.specs.Parts.{taken_back, spread_of, pair_at, pair_of, some_pair, used_of, pairs_tested}
 
 some_same : (n i : ℕ) (f g : ℕ → Bool) → ((k : ℕ) → f k ≡ g k) → some_of n i f ≡ some_of n i g
 unfolding some_of
 some_same zero i f g h = refl
 some_same (suc n) i f g h = rw (h i, some_same n (i + 1) f g h)
+
+up_to_same : (n i : ℕ) (f ends stops : ℕ → Bool) → ((k : ℕ) → ends k ≡ stops k) → count_up_to n i f ends ≡ count_up_to n i f stops
+unfolding count_up_to
+up_to_same zero i f ends stops h = refl
+up_to_same (suc n) i f ends stops h = rw (h i, up_to_same n (i + 1) f ends stops h)
 
 -- two tests that say the same
 agree : (a b c d : ℕ) → (a < b → c < d) → (b ≤ a → d ≤ c) → ltb a b ≡ ltb c d
@@ -67,10 +73,16 @@ pair_displaced t c l k p =
     let h : ℕ = ahead (t + 1) (on_setpoint l k) (off_setpoint l k) in
     pair_signed t c l k p
     ∙ rw (ahead_of_moved t (advance_value l.onadvance) c (on_setpoint l k) (count_at p), +ℤ_assoc (pos h) (on_shift (t + 1) c l) (neg_ℤ (off_shift (t + 1) c l)))
-    (ap (λ (b : Bool). used l k && b)
+    (ap (λ (b : Bool). pair_used l k && b)
     (by_spread (t + 1) _ h (on_shift (t + 1) c l -ℤ off_shift (t + 1) c l) (ahead_below t (on_setpoint l k) _) (ahead_below t (on_setpoint l k) (off_setpoint l k))))
 
 pub some_displaced : (t : ℕ) (c : ℤ) (l : Limit) (p : Position) →
     normal_holds (t + 1) c l p ≡ some_pair (t + 1) (from_at (t + 1) c l p) (spread_at (t + 1) c l) l.setpoints
 unfolding normal_holds some_pair pair_of
 some_displaced t c l p = some_same 8 0 _ _ (λ k. pair_displaced t c l k p)
+
+-- the tests of a normal switch
+pub tests_displaced : (t : ℕ) (c : ℤ) (l : Limit) (p : Position) →
+    switch_tests (t + 1) c l Normal p ≡ pairs_tested (t + 1) (from_at (t + 1) c l p) (spread_at (t + 1) c l) l.setpoints
+unfolding switch_tests pairs_tested pair_of
+tests_displaced t c l p = up_to_same 8 0 (used_of l.setpoints) _ _ (λ k. pair_displaced t c l k p)

@@ -1,7 +1,7 @@
 -- The parts in which the code reckons what 01 says of a limit switch; proofs/ shows each to be the rule.
 -- Assumes nothing.
 use Rattle.std.specs.Prelude.{ℕ, suc, ◌+◌, ◌-◌, ◌*◌, ◌/◌, min, Bool, cond, ◌&&◌, List, get_or, ltb, ℤ, pos, negsuc, ◌+ℤ◌}
-use Rattle.rules.specs.Words.{modulo, some_of}
+use Rattle.rules.specs.Words.{modulo, some_of, count_up_to}
 use Rattle.rules.specs.Counts.{ahead, used_pair}
 use Rattle.rules.specs.Switches.{timed_steps}
 
@@ -32,6 +32,13 @@ pair_of sf from spread setpoints k = pair_at sf from spread (get_or setpoints (2
 
 unfoldable pub some_pair : ℕ → ℕ → ℕ → List ℕ → Bool
 some_pair sf from spread setpoints = some_of 8 0 (pair_of sf from spread setpoints)
+
+-- how many of the eight are tested: the used ones up to and including the first that holds
+abbrev pub used_of : List ℕ → ℕ → Bool
+used_of setpoints k = used_pair (get_or setpoints (2 * k) 0) (get_or setpoints (2 * k + 1) 0)
+
+unfoldable pub pairs_tested : ℕ → ℕ → ℕ → List ℕ → ℕ
+pairs_tested sf from spread setpoints = count_up_to 8 0 (used_of setpoints) (pair_of sf from spread setpoints)
 
 -- the last of Q pulses that has started `at` counts from the train's start, or one that starts with it
 unfoldable pub last_pulse : ℕ → ℕ → ℕ → ℕ → ℕ

@@ -1,15 +1,17 @@
 // Limit switches: a pair at a position, advances, normal, pulse and timed switches.
 #![tactic(auto)]
 
-ghost use Rattle.std.specs.Prelude.{false, ◌≡◌, ◌+◌, ◌*◌, ◌%◌, ◌≤◌, nat_abs, get_or, ◌-ℤ◌};
+ghost use Rattle.std.specs.Prelude.{true, ◌≡◌, ◌+◌, ◌*◌, ◌%◌, ◌≤◌, nat_abs, get_or, ◌-ℤ◌};
 ghost use Rattle.std.proofs.Math.IntN.{sub_ℕ};
+ghost use Rattle.rules.specs.Words.{digit};
 ghost use Rattle.rules.specs.Counts.{ahead};
+ghost use Rattle.rules.specs.declared.Switch.TheVariants.{Normal};
 ghost use Rattle.rules.specs.Variants.{limit_switch};
 ghost use Rattle.rules.specs.Motion.{c_value};
-ghost use Rattle.rules.specs.Switches.{advance_value, advance_shift, count_at, on_shift, off_shift, pair_holds, normal_holds, pulse_start, pulse_on, pulse_holds, switch_holds};
+ghost use Rattle.rules.specs.Switches.{advance_value, advance_shift, count_at, pair_used, on_shift, off_shift, pair_holds, normal_holds, pulse_start, pulse_on, pulse_holds, switch_holds, switch_tests};
 ghost use Rattle.rules.specs.Card.{timed_after};
 ghost use Rattle.counts.specs.Factor.{factor};
-ghost use Rattle.switch.specs.Parts.{shift_bias, shift_counts, taken_back, spread_of, pair_at, some_pair, last_pulse, timed_left};
+ghost use Rattle.switch.specs.Parts.{shift_bias, shift_counts, taken_back, spread_of, pair_at, some_pair, pairs_tested, last_pulse, timed_left};
 
 use counts::{ScaleFactor, used_pair};
 use rules::{Advance, Limit, Pair, Position, Speed, Switch, TimedState};
@@ -93,6 +95,24 @@ fn pair(setpoints: &[u16; 16], k: u16) -> Pair
     }
 }
 
+// Whether a switch holds, and how many pair tests that took.
+#[derive(Clone, Copy)]
+pub struct Tested {
+    pub holds: bool,
+    pub tests: u16,
+}
+
+// A pulse or timed switch, of one pair: one test, and none at 0/0.
+fn one_tested(l: &Limit, holds: bool) -> Tested
+    ensures { (result.holds ≡ holds) × (result.tests ≡ digit (pair_used l.now 0)) }
+{
+    let pair = pair(&l.setpoints, 0);
+    Tested {
+        holds,
+        tests: used_pair(pair) as u16,
+    }
+}
+
 // What the pairs of a switch are tested with, worked out once for all of them.
 #[derive(Clone, Copy)]
 struct Displaced {
@@ -119,12 +139,22 @@ impl Displaced {
         at + (self.sf.whole() - length) < self.spread
     }
 
-    // The loop that tests the pairs of a normal switch, up to the first that holds.
-    #[tactic(auto, unfolding(crate::specs::Parts::some_pair))]
-    fn some_pair_holds(self, setpoints: &[u16; 16]) -> bool
-        ensures { result ≡ some_pair (factor self.sf) self.from self.spread setpoints.now }
+    // The loop that tests the pairs of a normal switch, up to the first that holds, and counts them. An unused one is no test.
+    fn pairs_tested(self, setpoints: &[u16; 16]) -> Tested
+        ensures { (result.holds ≡ some_pair (factor self.sf) self.from self.spread setpoints.now) × (result.tests ≡ pairs_tested (factor self.sf) self.from self.spread setpoints.now) }
     {
-        (0..8).any(|k| self.pair_holds(pair(setpoints, k)))
+        let mut tests = 0;
+        for k in 0..8 {
+            let pair = pair(setpoints, k);
+            tests += used_pair(pair) as u16;
+            if self.pair_holds(pair) {
+                return Tested { holds: true, tests };
+            }
+        }
+        Tested {
+            holds: false,
+            tests,
+        }
     }
 }
 
@@ -205,20 +235,20 @@ impl Moment {
         }
     }
 
-    // Pair k of a switch holds.
+    // The first pair of a switch holds, the only one of a timed switch.
     #[tactic(auto, using(crate::proofs::Pairs::pair_displaced))]
-    pub fn pair_holds(self, l: &Limit, k: u16) -> bool
-        ensures { result ≡ pair_holds (factor self.sf) (c_value self.c) l.now k self.position }
+    fn first_pair_holds(self, l: &Limit) -> bool
+        ensures { result ≡ pair_holds (factor self.sf) (c_value self.c) l.now 0 self.position }
     {
-        self.displaced(l).pair_holds(pair(&l.setpoints, k))
+        self.displaced(l).pair_holds(pair(&l.setpoints, 0))
     }
 
     // Normal: some used pair holds.
-    #[tactic(auto, using(crate::proofs::Pairs::some_displaced))]
-    pub fn normal_holds(self, l: &Limit) -> bool
-        ensures { result ≡ normal_holds (factor self.sf) (c_value self.c) l.now self.position }
+    #[tactic(auto, using(crate::proofs::Pairs::some_displaced, crate::proofs::Pairs::tests_displaced))]
+    fn normal_tested(self, l: &Limit) -> Tested
+        ensures { (result.holds ≡ normal_holds (factor self.sf) (c_value self.c) l.now self.position) × (result.tests ≡ switch_tests (factor self.sf) (c_value self.c) l.now Normal self.position) }
     {
-        self.displaced(l).some_pair_holds(&l.setpoints)
+        self.displaced(l).pairs_tested(&l.setpoints)
     }
 
     // A pulse switch: R from the unmoved pair, the train from the ON setpoint moved by the ON advance.
@@ -239,17 +269,20 @@ impl Moment {
         train.is_on(self.sf.ahead(pair.on, from))
     }
 
-    // A switch holds. `lasting` says of a timed one that its time has not run out.
-    #[tactic(auto, unfolding(rules::specs::Switches::switch_holds))]
-    pub fn switch_holds(self, l: &Limit, lasting: bool) -> bool
-        ensures { result ≡ switch_holds (factor self.sf) (c_value self.c) l.now (limit_switch l.now) self.position lasting }
+    // A switch holds, a timed one as if its time lasted, and how many of its pairs were tested for it.
+    #[tactic(auto, unfolding(rules::specs::Switches::switch_holds, rules::specs::Switches::switch_tests))]
+    pub fn switch_tested(self, l: &Limit) -> Tested
+        ensures { (result.holds ≡ switch_holds (factor self.sf) (c_value self.c) l.now (limit_switch l.now) self.position true) × (result.tests ≡ switch_tests (factor self.sf) (c_value self.c) l.now (limit_switch l.now) self.position) }
     {
         let s = Switch::from(l.action);
         match s {
-            Switch::Unprogrammed => false,
-            Switch::Normal => self.normal_holds(l),
-            Switch::Pulse(q, k) => self.pulse_holds(l, q, k),
-            Switch::Timed(_) => lasting && self.pair_holds(l, 0),
+            Switch::Unprogrammed => Tested {
+                holds: false,
+                tests: 0,
+            },
+            Switch::Normal => self.normal_tested(l),
+            Switch::Pulse(q, k) => one_tested(l, self.pulse_holds(l, q, k)),
+            Switch::Timed(_) => one_tested(l, self.first_pair_holds(l)),
         }
     }
 }

@@ -20,7 +20,7 @@ pub fn run(case: &Case, steps: u32) -> u32 {
     })
 }
 
-fn numbers(answer: &Answer) -> [u32; 3] {
+fn numbers(answer: &Answer) -> [u32; 4] {
     let readings = 8 * answer.rpm
         + 4 * u32::from(answer.overflow)
         + 2 * u32::from(answer.md1)
@@ -29,5 +29,6 @@ fn numbers(answer: &Answer) -> [u32; 3] {
         u32::from(answer.position) + 65536 * u32::from(answer.tach),
         u32::from(answer.real) + 65536 * u32::from(answer.virtuals),
         readings + 2097152 * u32::from(answer.changed) + 67108864 * u32::from(answer.refused),
+        u32::from(answer.tests),
     ]
 }

@@ -72,7 +72,7 @@ plain_structs! {
     }
     struct Answer {
         refused: bool, position: u16, rpm: u32, tach: u16, overflow: bool,
-        md1: bool, md2: bool, real: u16, virtuals: u16, changed: u16,
+        md1: bool, md2: bool, real: u16, virtuals: u16, changed: u16, tests: u16,
     }
     struct Byte { number: u16, value: u8, }
 }

@@ -202,7 +202,7 @@ fn write_words(words: &[u16], output: &mut impl Write) -> io::Result<()> {
 fn write_step(a: &Answer, line: bool, output: &mut impl Write) -> io::Result<()> {
     writeln!(
         output,
-        "step {} {} {} {} {} {} {} {:04x} {:04x} {} {}",
+        "step {} {} {} {} {} {} {} {:04x} {:04x} {} {} {}",
         if a.refused { 11 } else { 0 },
         a.position,
         a.rpm,
@@ -213,6 +213,7 @@ fn write_step(a: &Answer, line: bool, output: &mut impl Write) -> io::Result<()>
         a.real,
         a.virtuals,
         a.changed,
-        u8::from(line)
+        u8::from(line),
+        a.tests
     )
 }

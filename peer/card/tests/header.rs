@@ -59,10 +59,10 @@ fn a_loop_in_c_steps_its_module_where_it_sits() {
     assert_eq!(
         printed("card"),
         "power 0\nsetup 0\ngroup 0\nlimit 0\n\
-         step 0 position 0 real 0001\n\
-         step 0 position 100 real 0000\n\
-         step 0 position 200 real 0000\n\
-         step 11 position 200 real 0000\n\
+         step 0 position 0 real 0001 tests 1\n\
+         step 0 position 100 real 0000 tests 1\n\
+         step 0 position 200 real 0000 tests 1\n\
+         step 11 position 200 real 0000 tests 0\n\
          fault 1\n\
          read 80 e0 01\n\
          line 0 write 0 line 1 write 0 line 0\n\

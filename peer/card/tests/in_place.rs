@@ -2,12 +2,12 @@
 //! programming between them, give peer's answers and touch nothing beside it.
 
 use card_loop::layout::{
-    Acknowledges, Advance, Bus, Byte, Detector, Errors, Group, Last, Limit, Module, Pair, Scalars,
-    Setup, Shown, Switch,
+    Acknowledges, Advance, Answer, Bus, Byte, Detector, Errors, Group, Last, Limit, Module, Pair,
+    Scalars, Setup, Shown, Switch,
 };
 use card_loop::replay;
 use card_loop::FileCycle;
-use peer::generate::{byte_list, cycle_list, frame_list, step_list, CallList};
+use peer::generate::{byte_list, cycle_list, frame_list, pair_test_list, step_list, CallList};
 
 const GUARD: [u8; 64] = [0xa5; 64];
 
@@ -59,6 +59,11 @@ fn compare(lists: impl Iterator<Item = (u64, CallList)>) {
 #[test]
 fn steps_in_place_answer_as_peer_does() {
     compare((1..=20).map(|seed| (seed, step_list(seed, 2600))));
+}
+
+#[test]
+fn tests_in_place_are_counted_as_peer_does() {
+    compare((1..=10).map(|seed| (seed, pair_test_list(seed))));
 }
 
 #[test]
@@ -135,9 +140,12 @@ fn lit_card() -> Module {
     card
 }
 
-fn real_outputs(card: &mut Module) -> u16 {
+fn step(card: &mut Module) -> Answer {
     card.step(replay::sample_of([10, 0, 0, 0, 0, 0, 0, 0, 0]))
-        .real
+}
+
+fn real_outputs(card: &mut Module) -> u16 {
+    step(card).real
 }
 
 /// 01: 3 "gives no module", and nothing changes.
@@ -192,6 +200,19 @@ fn a_number_that_no_rule_names_lights_nothing() {
         assert_eq!(real_outputs(&mut card), 0);
     }
     assert_eq!(real_outputs(&mut lit_card()), 1);
+}
+
+/// A missing output is not tested, though a module that no call writes may
+/// hold a program for it; nor is an unprogrammed one.
+#[test]
+fn a_missing_or_unprogrammed_output_is_not_tested() {
+    assert_eq!(step(&mut lit_card()).tests, 1);
+    let mut card = lit_card();
+    card.configuration.model = 8511;
+    assert_eq!(step(&mut card).tests, 0);
+    let mut card = lit_card();
+    card.configuration.programming.limits[0].action.kind = 0;
+    assert_eq!(step(&mut card).tests, 0);
 }
 
 /// The programming of docs/BENCH.md, case a, read in the module field by field:
@@ -298,6 +319,8 @@ fn the_programming_is_read_where_it_lies() {
     };
     assert_eq!((kept.shown, kept.bus), (shown, bus));
     assert_eq!((answer.changed, card.configuration.raw), (8, 512));
+    // Output 32 alone is programmed, with one pair.
+    assert_eq!(answer.tests, 1);
     assert_eq!(
         x.speed.last,
         Last {

@@ -44,6 +44,11 @@ impl Ladder {
 
     pub fn power_up(&mut self) {
         let real_count = self.numbers.pick(&[0, 8, 16, 16]);
+        self.power_up_with(real_count);
+    }
+
+    /// The module with so many real outputs.
+    pub fn power_up_with(&mut self, real_count: u16) {
         self.program = Program::fresh(real_count);
         self.acknowledged = [false; 3];
         self.error_stands = true;

@@ -6,9 +6,9 @@ use std::fmt;
 
 use crate::blocks::LIMIT_BLOCK_WORDS;
 use crate::generate::call_list::CallList;
-use crate::generate::file_kind::{FileKind, FILE_KINDS};
 use crate::generate::ladder::Ladder;
 use crate::generate::numbers::Numbers;
+use crate::generate::paced_list::{paced_list, Drawing};
 use crate::generate::program::{
     draw_anding, draw_any_advance, draw_limit_block, draw_pair, Program, NORMAL, PULSE, TIMED,
 };
@@ -18,7 +18,6 @@ use crate::limit_block::{HIGHEST_ADVANCE, MOST_TIMED, PAIRS};
 use crate::module::Module;
 use crate::motion::advance_shift;
 use crate::pair::Pair;
-use crate::setup::{HIGHEST_SCALE, LOWEST_SCALE};
 use crate::switch::{bits_of, Action};
 
 /// Limit programs in a list, each drawn for the speed that follows.
@@ -26,154 +25,36 @@ const RUNS: u32 = 4;
 /// Byte accesses follow one call in so many.
 const ACCESSES_EVERY: u32 = 200;
 
-/// The greatest c and the least.
-const FASTEST: i32 = 61_320;
-const FASTEST_BACK: i32 = -61_440;
-/// 1,400 rpm: 573.44 counts between two updates of c.
-const FAST_LINE: (u16, u16) = (560, 590);
-/// About a turn from one update of c to the next.
-const ONE_TURN: (u16, u16) = (900, 1150);
+/// Groups that are mostly open.
+const DRAWING: Drawing = Drawing {
+    groups: |numbers, program| {
+        let mode = numbers.pick(&[0, 0, 1]);
+        program.draw_groups_in(numbers, mode);
+    },
+    limits: |numbers, program, paces| {
+        draw_limits_for(numbers, program, paces, Speed::draw_block);
+    },
+    samples: Samples::draw_paced,
+};
 
 /// The list of a seed.
 pub fn length_list(seed: u64) -> CallList {
-    let mut run = Run {
-        // Other numbers than the other lists have for the seed.
-        ladder: Ladder::new(seed.rotate_left(48), ACCESSES_EVERY),
-        samples: Samples::new(),
-    };
-    run.ladder.power_up();
-    run.set_up();
-    for _ in 0..RUNS {
-        if run.ladder.numbers.one_in(3) {
-            run.set_up();
-        }
-        run.at_speed();
-    }
-    run.ladder.list
+    // Other numbers than the other lists have for the seed.
+    let mut ladder = Ladder::new(seed.rotate_left(48), ACCESSES_EVERY);
+    ladder.power_up();
+    paced_list(ladder, RUNS, &DRAWING)
 }
 
-struct Run {
-    ladder: Ladder,
-    samples: Samples,
-}
-
-impl Run {
-    /// Another SF and mode, and groups that are mostly open.
-    fn set_up(&mut self) {
-        let ladder = &mut self.ladder;
-        ladder.clear_errors();
-        let (scale, independent) = (draw_scale(&mut ladder.numbers), ladder.numbers.one_in(3));
-        let mut program = ladder.program.clone();
-        program.draw_setup(&mut ladder.numbers, scale, independent);
-        ladder.sound_cycle_of(FileKind::Setup, program);
-        self.samples.module_start();
-        if !ladder.program.is_independent() {
-            let mode = ladder.numbers.pick(&[0, 0, 1]);
-            let mut program = ladder.program.clone();
-            program.draw_groups_in(&mut ladder.numbers, mode);
-            ladder.sound_cycle_of(FileKind::Group, program);
-        }
-    }
-
-    /// Limit blocks drawn for a speed, which comes and stays for a while.
-    fn at_speed(&mut self) {
-        let paces = draw_paces(&mut self.ladder.numbers);
-        self.limits_for(paces);
-        self.paced(paces);
-        self.interlude(paces);
-        self.paced(paces);
-        if self.ladder.numbers.one_in(3) {
-            let length = self.samples.draw_segment(&mut self.ladder.numbers);
-            self.ladder.run(&mut self.samples, length);
-        }
-    }
-
-    fn limits_for(&mut self, paces: [i32; 2]) {
-        let ladder = &mut self.ladder;
-        ladder.clear_errors();
-        let mut program = ladder.program.clone();
-        draw_limits_for(&mut ladder.numbers, &mut program, paces);
-        ladder.sound_cycle_of(FileKind::Limit, program);
-    }
-
-    /// Some updates of c, all but the first of them at these paces.
-    fn paced(&mut self, paces: [i32; 2]) {
-        let ladder = &mut self.ladder;
-        self.samples
-            .draw_paced(&mut ladder.numbers, &ladder.program, paces);
-        let length = u32::from(ladder.numbers.between(400, 800));
-        ladder.run(&mut self.samples, length);
-    }
-
-    /// What comes between in mid-run.
-    fn interlude(&mut self, paces: [i32; 2]) {
-        match self.ladder.numbers.below(8) {
-            0..=2 => (0..4).for_each(|_| self.ladder.nudges()),
-            // The same speed, and limit blocks for it at once.
-            3 => self.limits_for(paces),
-            4 => {
-                let kind = self.ladder.numbers.pick(&FILE_KINDS);
-                self.ladder.faulty_cycle(kind);
-            }
-            5 => {
-                self.ladder.keeping_setup();
-                self.samples.module_start();
-            }
-            6 => self.fault(),
-            _ => {}
-        }
-    }
-
-    /// A raw position over 1023, a few steps in fault, then ClrErr.
-    fn fault(&mut self) {
-        let ladder = &mut self.ladder;
-        let mut sample = self.samples.next(&mut ladder.numbers, &ladder.program);
-        sample[0] |= 1 << ladder.numbers.between(10, 15);
-        ladder.step(&sample);
-        let length = ladder.numbers.below(4);
-        ladder.run(&mut self.samples, length);
-        ladder.clear_errors();
-        self.samples.module_start();
-    }
-}
-
-fn draw_scale(numbers: &mut Numbers) -> u16 {
-    let any = numbers.between(LOWEST_SCALE, HIGHEST_SCALE);
-    numbers.pick(&[2, 3, 10, 100, 360, 1000, 1000, 1024, 1024, 1024, any, any])
-}
-
-/// What c becomes in turn: the same again, its opposite, or another speed.
-fn draw_paces(numbers: &mut Numbers) -> [i32; 2] {
-    let pace = draw_pace(numbers);
-    // At such a pace few positions are passed; at the other one many.
-    let jumps = pace.abs() > 5000;
-    let other = match numbers.below(4) {
-        0 | 1 if !jumps => pace,
-        2 if !jumps => -pace,
-        _ => one_way_or_other(numbers, ONE_TURN),
-    };
-    [pace, other]
-}
-
-/// A fast line's c, or one up to the fastest.
-fn draw_pace(numbers: &mut Numbers) -> i32 {
-    match numbers.below(12) {
-        0..=4 => one_way_or_other(numbers, FAST_LINE),
-        5 => one_way_or_other(numbers, (20, 300)),
-        6 | 7 => one_way_or_other(numbers, (300, 1500)),
-        8 => one_way_or_other(numbers, (1500, 10_000)),
-        9 => one_way_or_other(numbers, (10_000, FASTEST as u16)),
-        _ => numbers.pick(&[FASTEST, FASTEST_BACK]),
-    }
-}
-
-fn one_way_or_other(numbers: &mut Numbers, (low, high): (u16, u16)) -> i32 {
-    let counts = i32::from(numbers.between(low, high));
-    numbers.pick(&[counts, -counts])
-}
+/// Draws a block of a type for a speed.
+pub(crate) type DrawBlock = fn(&Speed, &mut Numbers, u16) -> [u16; LIMIT_BLOCK_WORDS];
 
 /// Draws limit blocks for most outputs, each for one of two c.
-fn draw_limits_for(numbers: &mut Numbers, program: &mut Program, paces: [i32; 2]) {
+pub(crate) fn draw_limits_for(
+    numbers: &mut Numbers,
+    program: &mut Program,
+    paces: [i32; 2],
+    draw_block: DrawBlock,
+) {
     program.m1.fill(0);
     let mut timed = [0; 2];
     for output in bits_of(program.assigned()) {
@@ -185,25 +66,37 @@ fn draw_limits_for(numbers: &mut Numbers, program: &mut Program, paces: [i32; 2]
             _ => NORMAL,
         };
         *timed_of_kind += usize::from(kind == TIMED);
-        let speed = Speed {
-            c: numbers.pick(&paces),
-            scale: program.scale(),
-        };
-        program.set_limit_block(output, &speed.draw_block(numbers, kind));
+        let speed = Speed::draw(numbers, program, paces);
+        program.set_limit_block(output, &draw_block(&speed, numbers, kind));
     }
 }
 
 /// The speed that a limit block is drawn for.
-struct Speed {
+pub(crate) struct Speed {
     /// Not 0.
     c: i32,
-    scale: u16,
+    pub scale: u16,
 }
 
 impl Speed {
+    /// One of two c.
+    pub fn draw(numbers: &mut Numbers, program: &Program, paces: [i32; 2]) -> Speed {
+        Speed {
+            c: numbers.pick(&paces),
+            scale: program.scale(),
+        }
+    }
+
+    /// ON shift − OFF shift.
+    pub fn difference(&self, advances: [i16; 2]) -> i64 {
+        let [on_shift, off_shift] =
+            advances.map(|advance| advance_shift(advance, self.c, self.scale));
+        on_shift - off_shift
+    }
+
     /// A sound block of a type; one in twelve has pairs that are drawn for no
     /// speed, or none.
-    fn draw_block(&self, numbers: &mut Numbers, kind: u16) -> [u16; LIMIT_BLOCK_WORDS] {
+    pub fn draw_block(&self, numbers: &mut Numbers, kind: u16) -> [u16; LIMIT_BLOCK_WORDS] {
         let mut block = draw_limit_block(numbers, kind, self.scale);
         block[0] = kind;
         if numbers.one_in(6) {
@@ -212,16 +105,14 @@ impl Speed {
         let advances = self.draw_advances(numbers);
         block[1..3].copy_from_slice(&advances.map(|advance| advance as u16));
         if kind != PULSE && !numbers.one_in(12) {
-            let [on_shift, off_shift] =
-                advances.map(|advance| advance_shift(advance, self.c, self.scale));
-            self.draw_pairs(numbers, &mut block, on_shift - off_shift);
+            self.draw_pairs(numbers, &mut block, self.difference(advances));
         }
         block
     }
 
     /// Equal ones, any, or such that the shifts are up to five quarters of a
     /// turn apart.
-    fn draw_advances(&self, numbers: &mut Numbers) -> [i16; 2] {
+    pub fn draw_advances(&self, numbers: &mut Numbers) -> [i16; 2] {
         let on = draw_any_advance(numbers);
         let off = match numbers.below(8) {
             0 => on,
@@ -372,7 +263,7 @@ impl fmt::Display for Lengths {
 }
 
 /// The outputs of open groups; all in Independent Mode.
-fn open_outputs(module: &Module) -> u32 {
+pub(crate) fn open_outputs(module: &Module) -> u32 {
     if module.setup.independent {
         return u32::MAX;
     }
@@ -389,6 +280,7 @@ mod tests {
     use std::collections::BTreeMap;
 
     use super::*;
+    use crate::generate::paced_list::{FASTEST, FASTEST_BACK};
     use crate::generate::{step_list, USUAL_STEPS};
 
     const LISTS: u64 = 40;

@@ -19,6 +19,8 @@ mod frame_parts;
 mod ladder;
 mod length_lists;
 mod numbers;
+mod paced_list;
+mod pair_test_lists;
 #[cfg(test)]
 mod press_coverage;
 mod press_lists;
@@ -35,6 +37,7 @@ pub use cycle_lists::cycle_list;
 pub use extreme_lists::{extreme_list, Extremes};
 pub use frame_lists::frame_list;
 pub use length_lists::{length_list, Lengths};
+pub use pair_test_lists::{pair_test_list, PairTests};
 pub use press_lists::press_list;
 pub use step_lists::{step_list, USUAL_STEPS};
 pub use stops::StopPresses;

@@ -166,6 +166,19 @@ impl Program {
         }
     }
 
+    /// Deals the outputs that are left to the last group of their kind.
+    pub fn deal_rest(&mut self) {
+        let dealt = self.dealt_before(GROUPS);
+        for (kind, present) in [(0, self.real_count), (GROUP_VIRTUAL, 16)] {
+            let is_of_kind = |group: &usize| {
+                self.group_block(*group)[0] & (GROUP_USED | GROUP_VIRTUAL) == GROUP_USED | kind
+            };
+            if let Some(last) = (0..GROUPS).rev().find(is_of_kind) {
+                self.m0[group_block_at(last)] += present - dealt[usize::from(kind != 0)];
+            }
+        }
+    }
+
     /// Draws limit blocks, with a switch that holds nearly everywhere for the
     /// first output of each group.
     pub fn draw_showing_limits(&mut self, numbers: &mut Numbers) {

@@ -205,11 +205,15 @@ impl Samples {
         2 * window - self.steps % window + numbers.below(3)
     }
 
-    /// The machine runs so that c becomes these two numbers in turn; most
-    /// inputs are active.
-    pub fn draw_paced(&mut self, numbers: &mut Numbers, program: &Program, paces: [i32; 2]) {
+    /// The machine runs so that c becomes these two numbers in turn.
+    fn pace(&mut self, program: &Program, paces: [i32; 2]) {
         let direction = if program.counts_down() { -1 } else { 1 };
         self.motion = Motion::Paced(paces.map(|pace| direction * pace));
+    }
+
+    /// The machine runs at these paces; most inputs are active.
+    pub fn draw_paced(&mut self, numbers: &mut Numbers, program: &Program, paces: [i32; 2]) {
+        self.pace(program, paces);
         for inputs in [&mut self.real, &mut self.virt] {
             inputs.draw(numbers);
             if !numbers.one_in(4) {
@@ -218,6 +222,14 @@ impl Samples {
             }
         }
         self.forces.every = numbers.pick(&[0, 0, 200]);
+    }
+
+    /// The machine runs at these paces; inputs chatter and forces come often.
+    pub fn draw_restless(&mut self, numbers: &mut Numbers, program: &Program, paces: [i32; 2]) {
+        self.pace(program, paces);
+        self.real.draw(numbers);
+        self.virt.draw(numbers);
+        self.forces.every = numbers.pick(&[0, 20, 60]);
     }
 
     /// The machine stands; tells for how many samples, a stop being among

@@ -9,7 +9,7 @@ use crate::group::{Group, Groups, Mode};
 use crate::module::Module;
 use crate::motion::STEPS_PER_MS;
 use crate::replay::{make_call, read_call, Call};
-use crate::step::StepAnswer;
+use crate::step::{StepAnswer, SAMPLE_WORDS};
 use crate::words::Words;
 
 /// Counts the steps since the module start.
@@ -49,9 +49,10 @@ impl Clock {
 pub(crate) struct SeenStep<'a> {
     pub before: &'a Groups,
     pub after: &'a Groups,
+    pub sample: &'a [u16; SAMPLE_WORDS],
+    pub answer: &'a StepAnswer,
     /// It updates the speed.
     pub update: bool,
-    pub rpm: u32,
     /// The module after it.
     pub module: &'a Module,
 }
@@ -59,7 +60,7 @@ pub(crate) struct SeenStep<'a> {
 impl<'a> SeenStep<'a> {
     /// An update with rpm 0.
     pub fn is_stop(&self) -> bool {
-        self.update && self.rpm == 0
+        self.update && self.answer.rpm == 0
     }
 
     /// The used groups, before and after.
@@ -85,8 +86,9 @@ pub(crate) fn each_step(list: &CallList, mut see: impl FnMut(SeenStep)) {
                 see(SeenStep {
                     before: &before,
                     after: &module.groups,
+                    sample: &sample,
+                    answer: &answer,
                     update,
-                    rpm: answer.rpm,
                     module,
                 });
             }

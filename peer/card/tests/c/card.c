@@ -30,7 +30,8 @@ int main(void) {
     for (int i = 0; i < 4; i++) {
         chimneyrye_sample sample = {.raw = raws[i], .virtualon = i == 3};
         chimneyrye_answer answer = chimneyrye_step(&card, sample);
-        printf("step %d position %u real %04x\n", answer.refused ? 11 : 0, answer.position, answer.real);
+        /* The one pair is tested in each step but the last. */
+        printf("step %d position %u real %04x tests %u\n", answer.refused ? 11 : 0, answer.position, answer.real, answer.tests);
     }
     printf("fault %d\n", card.configuration.fault);
     /* Bytes 0 and 1 of the input table: TrFlt; the acknowledges of setup, group and limit. With the mask the line is up until a 1 is written to byte 16. */

@@ -170,6 +170,7 @@ int main(void) {
     FIELD(chimneyrye_answer, real);
     FIELD(chimneyrye_answer, virtuals);
     FIELD(chimneyrye_answer, changed);
+    FIELD(chimneyrye_answer, tests);
     puts("");
     printf("byte %zu", sizeof(chimneyrye_byte));
     FIELD(chimneyrye_byte, number);

@@ -16,7 +16,7 @@ import sys
 import tempfile
 import threading
 
-QUICK = "Computes Cases Laws Congruence Lengths Packing Past Cycles Causes Refusals FilesLeft RefusedLeaves Faults Brought".split()
+QUICK = "Computes Cases Laws Congruence Lengths Packing Tests Past Cycles Causes Refusals FilesLeft RefusedLeaves Faults Brought".split()
 
 HERE = os.path.dirname(os.path.abspath(__file__))
 ROOT = os.path.dirname(HERE)

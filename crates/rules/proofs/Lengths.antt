@@ -135,7 +135,8 @@ count_each zero i f false h = refl
 count_each (suc n) i f true h = rw (h i (omega arith) (omega arith), count_each n (i + 1) f true (λ k a b. h k (omega arith) (omega arith))) (omega arith)
 count_each (suc n) i f false h = rw (h i (omega arith) (omega arith), count_each n (i + 1) f false (λ k a b. h k (omega arith) (omega arith)))
 
-count_split : (m n i : ℕ) (f : ℕ → Bool) → count_of (m + n) i f ≡ count_of m i f + count_of n (i + m) f
+-- the numbers of two ranges in a row
+pub count_split : (m n i : ℕ) (f : ℕ → Bool) → count_of (m + n) i f ≡ count_of m i f + count_of n (i + m) f
 unfolding count_of
 count_split zero n i f =
     let e : i + 0 ≡ i = omega arith in

@@ -3,7 +3,7 @@
 use Prim.Native.Nat.{ℕ, zero, suc, ◌+◌, ◌≤◌, ◌<◌}
 use mathlib.Core.Bool.{Bool, true, false, cond}
 use mathlib.Core.List.{List}
-use mathlib.Core.Path.{◌≡◌, refl}
+use mathlib.Core.Path.{◌≡◌, refl, ◌∙◌}
 use native.Mathlib.Omega.{arith}
 use lib.IntN.{ℤ}
 use Rattle.std.proofs.lemmas.List.Sums.{sum_by-le}
@@ -22,6 +22,7 @@ use Rattle.rules.specs.Words.{digit, count_of, count_up_to, table}
 use Rattle.rules.specs.Variants.{limit_switch}
 use Rattle.rules.specs.Switches.{pair_used, present, limit_of, switch_tests, output_tests, tests_at, pair_tests, answer_of}
 use Rattle.rules.specs.Card.{tests_now, step_answer, step_call}
+use Rattle.rules.proofs.Lengths.{count_split}
 use Rattle.rules.proofs.Packing.{digit_le, length_table, get_d_table_0}
 
 -- ---- Which numbers are counted
@@ -29,12 +30,7 @@ use Rattle.rules.proofs.Packing.{digit_le, length_table, get_d_table_0}
 -- one number more
 pub count_more : (n i : ℕ) (f : ℕ → Bool) → count_of (n + 1) i f ≡ count_of n i f + digit (f (i + n))
 unfolding count_of
-count_more zero i f = let e : i + 0 ≡ i = omega arith in rw e (omega arith)
-count_more (suc n) i f =
-    let m : suc n + 1 ≡ suc (n + 1) = omega arith in
-    let j : i + 1 + n ≡ i + suc n = omega arith in
-    let more = rw j at (count_more n (i + 1) f) in
-    rw m (omega (arith, more))
+count_more n i f = count_split n 1 i f ∙ omega arith
 
 -- where none ends the count all are; else those up to and including the first that does
 pub up_to_none : (n i : ℕ) (f ends : ℕ → Bool) → ((k : ℕ) → i ≤ k → k < i + n → ends k ≡ false) → count_up_to n i f ends ≡ count_of n i f

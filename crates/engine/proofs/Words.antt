@@ -71,14 +71,14 @@ module _ (m : Model) (s : Sample) (rule : ℕ) where
       bit (word_of 0 (λ k. ltb k (virtual_count m))) n && forced (bit s.virtualoff n) (bit s.virtualon n) (bit (rule / 65536) n)
 
   real_at_lem : (n : ℕ) → n < 16 → real_at n ≡ output_on m s (bit rule) n
-  unfolding output_on present
-  real_at_lem n h = rw (present_bit (real_count m) n h, low_bit rule n h, lt-ltb n 16 h)
+  unfolding output_on
+  real_at_lem n h = rw (real_present m n h, low_bit rule n h, lt-ltb n 16 h)
 
   virtual_at_lem : (n : ℕ) → n < 16 → virtual_at n ≡ output_on m s (bit rule) (16 + n)
-  unfolding output_on present
+  unfolding output_on
   virtual_at_lem n h =
       let e : 16 + n - 16 ≡ n = omega arith in
-      rw (present_bit (virtual_count m) n h, high_bit rule 16 n, le-ltb (16 + n) 16 (omega arith), e)
+      rw (rw e at (virtual_present m (16 + n) (omega arith)), high_bit rule 16 n, le-ltb (16 + n) 16 (omega arith), e)
 
   pub real_word : word_of 0 real_at ≡ word_of 0 (output_on m s (bit rule))
   real_word = packed_same 16 0 real_at (output_on m s (bit rule)) (λ k a h. real_at_lem k h)

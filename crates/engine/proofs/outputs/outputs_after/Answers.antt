@@ -1,10 +1,9 @@
 -- `engine::outputs::outputs_after` meets its contract: one output more of the word, of the table and of the sum at each turn, from the highest down. Assumes nothing.
 use Prim.Native.Nat.{ℕ, ◌≤◌, ◌<◌, ◌-◌, ◌*◌, ◌^◌}
 use mathlib.Core.Bool.{Bool, false, cond}
-use mathlib.Core.Logic.{inl, inr}
 use mathlib.Core.Path.{◌≡◌, refl, sym, ap, ◌∙◌}
 use native.Mathlib.Omega.{arith}
-use Rattle.std.proofs.lemmas.Bool.{cases_Bool}
+use Rattle.std.proofs.lemmas.Bool.{cond_both}
 use lib.Dec.{ltb}
 use lib.ListN.{get_or}
 use Rattle.rules.specs.declared.Conditions.{Conditions}
@@ -35,7 +34,7 @@ off : (w : Conditions) (l : Limit) (position : GroupPosition) (isopen : Bool) (x
 off w l position isopen x n a e q = (
   ap (λ (o : OutputAfter). o.on) q ∙ sym (none_on w l position isopen n _ e),
   ap (λ (o : OutputAfter). o.timed) q ∙ sym (untimed_rests w l position x (rw e)),
-  λ has. ap (λ (o : OutputAfter). o.tests) q ∙ rw (none_tested w l position e) (elim (cases_Bool has) [ inl h ↦ rw h | inr h ↦ rw h ]),
+  λ has. ap (λ (o : OutputAfter). o.tests) q ∙ sym (cond_both has (output_tests w l position) 0 (λ (z : ℕ). z ≡ 0) (λ _. none_tested w l position e) (λ _. refl)),
 )
 
 -- in a turn the word has at most 31 digits

@@ -1,15 +1,25 @@
-//! Steps and frames from memory with a checksum over their answers, to
-//! measure their time. docs/BENCH.md has the programming, the samples, the
-//! frames and the checksum.
+//! Steps, programming cycles and frames from memory with a checksum over their
+//! answers, to measure their time. docs/BENCH.md has the programming, the
+//! samples, the frames and the checksum.
 
 use crate::blocks::{group_block_at, limit_block_at, GROUP_BLOCK_WORDS, LIMIT_BLOCK_WORDS};
 use crate::cycles::{Answer, GROUP_COMMAND, M0_WORDS, M1_WORDS, TRANSMIT};
 use crate::df1::{read_frame, write_frame, LONGEST_FRAME, MOST_DATA};
 use crate::limit_block::PAIRS;
 use crate::module::Module;
+use crate::motion::TURN;
 use crate::step::{StepAnswer, SAMPLE_WORDS};
 
-/// What a module is programmed with.
+/// What a case does with its programmed module.
+enum Work {
+    Steps,
+    /// Steps answered 11.
+    Faults,
+    /// Limit cycles, each followed by the call that ends it.
+    Cycles,
+}
+
+/// What a module is programmed with, and what it then does.
 pub struct Case {
     number: u16,
     setup: [u16; 12],
@@ -17,6 +27,7 @@ pub struct Case {
     outputs: u16,
     /// The block of an output, counted from 0.
     limit_block: fn(u16) -> [u16; LIMIT_BLOCK_WORDS],
+    work: Work,
 }
 
 /// 32 normal outputs with eight pairs, six groups, advances.
@@ -33,6 +44,34 @@ pub const FULL: Case = Case {
     ],
     outputs: 32,
     limit_block: full_block,
+    work: Work::Steps,
+};
+
+/// The full card with all groups open and pairs that seldom hold, so that
+/// nearly every pair is tested.
+pub const EVERY_PAIR: Case = Case {
+    groups: &[
+        [33029, 900, 100, 50],
+        [33029, 900, 100, 50],
+        [33030, 900, 100, 50],
+        [49413, 900, 100, 50],
+        [49413, 900, 100, 50],
+        [49414, 900, 100, 50],
+    ],
+    limit_block: every_pair_block,
+    ..FULL
+};
+
+/// The full card with a raw position out of range.
+pub const FAULTS: Case = Case {
+    work: Work::Faults,
+    ..FULL
+};
+
+/// The full card, programmed again and again.
+pub const CYCLES: Case = Case {
+    work: Work::Cycles,
+    ..FULL
 };
 
 /// Four outputs of one pair.
@@ -42,6 +81,7 @@ pub const SMALL: Case = Case {
     groups: &[[32772, 0, 0, 0]],
     outputs: 4,
     limit_block: small_block,
+    work: Work::Steps,
 };
 
 fn full_block(output: u16) -> [u16; LIMIT_BLOCK_WORDS] {
@@ -62,11 +102,54 @@ fn full_block(output: u16) -> [u16; LIMIT_BLOCK_WORDS] {
     block
 }
 
+fn every_pair_block(output: u16) -> [u16; LIMIT_BLOCK_WORDS] {
+    let mut block = [0; LIMIT_BLOCK_WORDS];
+    block[0] = 8192 * (1 + output % 2);
+    let advance = match output % 2 {
+        0 => 999,
+        _ => 64537,
+    };
+    block[1] = advance;
+    block[2] = advance;
+    for index in 0..PAIRS {
+        let on = (31 * output + 125 * index as u16) % 1000;
+        block[3 + 2 * index] = on;
+        block[4 + 2 * index] = (on + 1) % 1000;
+    }
+    block
+}
+
 fn small_block(output: u16) -> [u16; LIMIT_BLOCK_WORDS] {
     let mut block = [0; LIMIT_BLOCK_WORDS];
     block[3] = 256 * output;
     block[4] = 256 * output + 100;
     block
+}
+
+/// A programmed module that a case runs on.
+pub trait Card {
+    /// The outcome: 0 where the cycle is accepted, `IDLE`, or its refusal.
+    fn limit_cycle(&mut self, m1: &mut [u16; M1_WORDS]) -> u32;
+
+    /// The numbers that the checksum takes for a step.
+    fn step(&mut self, sample: &[u16; SAMPLE_WORDS]) -> [u32; 4];
+}
+
+/// The outcome of a call that was answered Idle.
+pub const IDLE: u32 = 65535;
+
+impl Card for Module {
+    fn limit_cycle(&mut self, m1: &mut [u16; M1_WORDS]) -> u32 {
+        match Module::limit_cycle(self, m1) {
+            Answer::Accepted => 0,
+            Answer::Idle => IDLE,
+            Answer::Refused(refusal) => u32::from(refusal.number()),
+        }
+    }
+
+    fn step(&mut self, sample: &[u16; SAMPLE_WORDS]) -> [u32; 4] {
+        numbers(&Module::step(self, sample))
+    }
 }
 
 /// The files that a module is programmed with.
@@ -81,6 +164,9 @@ impl Case {
         match name {
             "a" => Some(FULL),
             "b" => Some(SMALL),
+            "x" => Some(EVERY_PAIR),
+            "f" => Some(FAULTS),
+            "p" => Some(CYCLES),
             _ => None,
         }
     }
@@ -114,11 +200,39 @@ impl Case {
         module
     }
 
-    /// The checksum of this many steps.
-    pub fn run(&self, steps: u32) -> u32 {
-        let mut module = self.module();
-        (0..steps).fold(0, |sum, step| add(sum, &module.step(&sample(step))))
+    /// The checksum of this many steps or turns.
+    pub fn run(&self, count: u32) -> u32 {
+        self.run_on(&mut self.module(), count)
     }
+
+    /// The same on a module that is programmed already.
+    pub fn run_on(&self, card: &mut impl Card, count: u32) -> u32 {
+        match self.work {
+            Work::Steps => run_steps(card, count, sample),
+            Work::Faults => run_steps(card, count, fault_sample),
+            Work::Cycles => run_cycles(card, count, &mut self.files().m1),
+        }
+    }
+}
+
+fn run_steps(card: &mut impl Card, steps: u32, sample: impl Fn(u32) -> [u16; SAMPLE_WORDS]) -> u32 {
+    (0..steps).fold(0, |sum, step| checksum(sum, card.step(&sample(step))))
+}
+
+/// Each turn moves a setpoint and sends the limit program; a step ends them.
+fn run_cycles(card: &mut impl Card, turns: u32, m1: &mut [u16; M1_WORDS]) -> u32 {
+    // The cycle that programmed the module is ended before the first turn.
+    m1[0] = 0;
+    card.limit_cycle(m1);
+    let sum = (0..turns).fold(0, |sum, turn| {
+        m1[limit_block_at(0) + 3] = 500 + (turn % 400) as u16;
+        m1[0] = TRANSMIT;
+        let sent = card.limit_cycle(m1);
+        m1[0] = 0;
+        let ended = card.limit_cycle(m1);
+        checksum(sum, [sent << 16 | ended])
+    });
+    checksum(sum, card.step(&sample(turns)))
 }
 
 /// The line that a bench prints for its arguments, a case and a count, where
@@ -131,7 +245,7 @@ pub fn line(arguments: &[&str], run: fn(&str, u32) -> Option<u32>) -> Option<Vec
     Some(format!("{name} {count} {checksum}\n").into_bytes())
 }
 
-/// The checksum of this many steps or frames of a case.
+/// The checksum of this many steps, turns or frames of a case.
 pub fn run(name: &str, count: u32) -> Option<u32> {
     match name {
         "w" => Some(write_frames(count)),
@@ -151,19 +265,23 @@ pub fn sample(step: u32) -> [u16; SAMPLE_WORDS] {
     sample
 }
 
-fn add(sum: u32, answer: &StepAnswer) -> u32 {
+/// The sample of a step that is answered 11.
+fn fault_sample(step: u32) -> [u16; SAMPLE_WORDS] {
+    let mut sample = sample(step);
+    sample[0] = TURN;
+    sample
+}
+
+fn numbers(answer: &StepAnswer) -> [u32; 4] {
     let [md1, md2] = answer.detectors.map(u32::from);
     let readings = 8 * answer.rpm + 4 * u32::from(answer.tach_overflow) + 2 * md1 + md2;
     let refused = u32::from(answer.refusal.is_some());
-    checksum(
-        sum,
-        [
-            u32::from(answer.machine_position.0) | u32::from(answer.tach) << 16,
-            u32::from(answer.real_outputs) | u32::from(answer.virtual_outputs) << 16,
-            readings | answer.changed << 21 | refused << 26,
-            u32::from(answer.tests),
-        ],
-    )
+    [
+        u32::from(answer.machine_position.0) | u32::from(answer.tach) << 16,
+        u32::from(answer.real_outputs) | u32::from(answer.virtual_outputs) << 16,
+        readings | answer.changed << 21 | refused << 26,
+        u32::from(answer.tests),
+    ]
 }
 
 /// The data of the first frame.

@@ -207,7 +207,7 @@ impl Cycle for GroupCycle<'_> {
             return Err(Finding::new(Refusal::GroupData, RESERVED_ERROR));
         }
         let (blocks, _) = file[GROUP_BLOCKS_AT..GROUP_RESERVED_AT].as_chunks();
-        read_groups(blocks, module.setup.scale, module.real_count)
+        read_groups(blocks, module.setup.scale, module.real_count())
             .map_err(|fault| Finding::of_block(Refusal::GroupData, fault))
     }
 
@@ -247,7 +247,7 @@ impl Cycle for LimitCycle<'_> {
         }
         let (blocks, _) = file[LIMIT_BLOCKS_AT..LIMIT_RESERVED_AT].as_chunks();
         let scale = module.setup.scale;
-        read_switches(blocks, scale, module.present(), module.assigned())
+        read_switches(blocks, scale, module.present, module.assigned())
             .map_err(|fault| Finding::of_block(Refusal::LimitData, fault))
     }
 

@@ -1,10 +1,14 @@
 //! Output groups: their programming blocks, position, dwell and openness.
 
+use std::ops::Range;
+
 use crate::blocks::{BlockFault, GROUP_BLOCK_WORDS};
 use crate::motion::MachinePosition;
 use crate::pair::{distance, pair_holds, sum, Pair};
 
 pub const GROUPS: usize = 6;
+/// Bit of the First Cycle Input among a kind's inputs.
+pub(crate) const FIRST_CYCLE: u16 = 7;
 
 pub(crate) const QUANTITY_BITS: u16 = 0x001f;
 pub(crate) const MODE_SHIFT: u16 = 8;
@@ -155,7 +159,7 @@ pub struct GroupSample {
     pub stop: bool,
 }
 
-/// What a group keeps from one step to the next.
+/// What a group keeps from one step to the next, as far as its mode needs it.
 #[derive(Clone, Debug, PartialEq, Eq)]
 pub struct GroupState {
     /// Added to Machine Position in Modes 1 and 2.
@@ -164,6 +168,7 @@ pub struct GroupState {
     pub(crate) armed: bool,
     /// The dwell held at the end of the last step.
     pub(crate) in_dwell: bool,
+    /// The inputs in the last step.
     pub(crate) input: bool,
     pub(crate) first_cycle: bool,
     /// A qualifying step came since the latest dwell began.
@@ -184,32 +189,80 @@ impl GroupState {
     };
 
     /// One step; gives the Group Position that it leaves.
+    #[inline]
     pub fn step(
         &mut self,
         program: &GroupProgram,
         sample: GroupSample,
         scale: u16,
     ) -> GroupPosition {
-        let mut position = self.position(program, sample.machine, scale);
-        let in_dwell = pair_holds(program.channel, position.0, scale);
-        let begins = in_dwell && !self.in_dwell;
-        let edge = sample.input && !self.input;
-        self.in_dwell = in_dwell;
         match program.mode {
-            Mode::Mode0 => self.open = true,
-            Mode::Mode1 | Mode::Mode2 => {
-                if self.takes_edge(begins, edge) {
-                    position = self.preset(program, sample.machine, scale);
-                }
-                self.open = program.mode == Mode::Mode1 || self.open;
-            }
-            Mode::Mode3 => self.open = sample.input,
-            Mode::Mode4 => self.open = (self.open && !begins) || (edge && in_dwell),
-            Mode::Mode5 => self.step_mode_5(begins, sample),
+            Mode::Mode1 | Mode::Mode2 => self.step_with_preset(program, &sample, scale),
+            _ => self.step_with_offset(program, &sample, scale),
         }
-        self.input = sample.input;
-        self.first_cycle = sample.first_cycle;
+    }
+
+    /// A step of Mode 1 or 2.
+    #[inline]
+    fn step_with_preset(
+        &mut self,
+        program: &GroupProgram,
+        sample: &GroupSample,
+        scale: u16,
+    ) -> GroupPosition {
+        let position = self.position(program, sample.machine, scale);
+        let begins = self.dwell_begins(program, position, scale);
+        let taken = self.takes_edge(begins, sample.input);
+        self.open = program.mode == Mode::Mode1 || self.open;
+        if taken {
+            self.preset(program, sample.machine, scale)
+        } else {
+            position
+        }
+    }
+
+    /// A step of another mode.
+    #[inline]
+    fn step_with_offset(
+        &mut self,
+        program: &GroupProgram,
+        sample: &GroupSample,
+        scale: u16,
+    ) -> GroupPosition {
+        let position = self.position(program, sample.machine, scale);
+        match program.mode {
+            Mode::Mode3 => self.open = sample.input,
+            Mode::Mode4 => {
+                let begins = self.dwell_begins(program, position, scale);
+                let edge = self.has_edge(sample.input);
+                self.open = (self.open && !begins) || (edge && self.in_dwell);
+            }
+            Mode::Mode5 => {
+                let begins = self.dwell_begins(program, position, scale);
+                self.step_mode_5(begins, sample);
+            }
+            _ => self.open = true,
+        }
         position
+    }
+
+    /// Whether the Group Input became active.
+    fn has_edge(&mut self, input: bool) -> bool {
+        let before = std::mem::replace(&mut self.input, input);
+        input && !before
+    }
+
+    /// Judges the dwell; tells whether it begins.
+    #[inline]
+    fn dwell_begins(
+        &mut self,
+        program: &GroupProgram,
+        position: GroupPosition,
+        scale: u16,
+    ) -> bool {
+        let holds = pair_holds(program.channel, position.0, scale);
+        let held = std::mem::replace(&mut self.in_dwell, holds);
+        holds && !held
     }
 
     pub(crate) fn position(
@@ -227,12 +280,12 @@ impl GroupState {
 
     /// A dwell's beginning closes and arms before the edge is looked at; a
     /// taken edge opens and disarms.
-    fn takes_edge(&mut self, begins: bool, edge: bool) -> bool {
+    fn takes_edge(&mut self, begins: bool, input: bool) -> bool {
         if begins {
             self.open = false;
             self.armed = true;
         }
-        let taken = edge && self.armed;
+        let taken = self.has_edge(input) && self.armed;
         if taken {
             self.open = true;
             self.armed = false;
@@ -254,7 +307,7 @@ impl GroupState {
     }
 
     /// Beginning, qualifying step, stop, First Cycle edge, in this order.
-    fn step_mode_5(&mut self, begins: bool, sample: GroupSample) {
+    fn step_mode_5(&mut self, begins: bool, sample: &GroupSample) {
         if begins {
             self.open = false;
             self.qualified = false;
@@ -266,7 +319,8 @@ impl GroupState {
         if sample.stop {
             self.open = false;
         }
-        if sample.first_cycle && !self.first_cycle && self.qualified {
+        let pressed_before = std::mem::replace(&mut self.first_cycle, sample.first_cycle);
+        if sample.first_cycle && !pressed_before && self.qualified {
             self.open = true;
         }
     }
@@ -278,6 +332,13 @@ pub struct Group {
     pub program: GroupProgram,
     /// Its outputs among the 32.
     pub outputs: u32,
+    /// The same as a row, counted from 0.
+    pub(crate) row: Range<usize>,
+    /// From 0 to 5.
+    pub(crate) number: usize,
+    /// Its Group Input and First Cycle Input among the 32, one bit each.
+    pub(crate) input: u32,
+    pub(crate) first_cycle: u32,
     pub state: GroupState,
 }
 
@@ -306,12 +367,17 @@ pub(crate) fn read_groups(
         }
         let program = decode_group(block);
         let first = &mut next[program.kind as usize];
+        let row = *first..*first + program.quantity;
         *group = Some(Group {
-            outputs: ((1 << program.quantity) - 1) << *first,
+            outputs: ((1 << program.quantity) - 1) << row.start,
+            row: usize::from(row.start)..usize::from(row.end),
+            number: index,
+            input: 1 << (program.kind.first_bit() + index as u16),
+            first_cycle: 1 << (program.first_cycle_kind.first_bit() + FIRST_CYCLE),
             state: GroupState::START,
             program,
         });
-        *first += program.quantity;
+        *first = row.end;
     }
     Ok(groups)
 }

@@ -6,6 +6,7 @@
 mod bus;
 mod cycles;
 mod step;
+mod windows;
 
 pub mod bench;
 pub mod blocks;

@@ -52,8 +52,8 @@ const SETUP_ERROR: u8 = 1 << 0;
 /// One limit switch card.
 #[derive(Clone, Debug, PartialEq, Eq)]
 pub struct Module {
-    /// Real inputs and outputs: 0, 8 or 16.
-    pub(crate) real_count: u16,
+    /// Inputs and outputs that it has: bits 0 to 15 real, 16 to 31 virtual.
+    pub(crate) present: u32,
     pub(crate) setup: Setup,
     pub(crate) groups: Groups,
     pub(crate) switches: Switches,
@@ -104,7 +104,7 @@ impl Module {
             _ => return Err(Refusal::UnknownModule),
         };
         Ok(Module {
-            real_count,
+            present: 0xffff_0000 | ((1 << real_count) - 1),
             setup: Module::DEFAULT_SETUP,
             groups: NO_GROUPS,
             switches: Switches::NONE,
@@ -141,16 +141,15 @@ impl Module {
         self.message_ignored
     }
 
-    /// Inputs and outputs that the module has: bits 0 to 15 real, 16 to 31
-    /// virtual.
-    pub(crate) fn present(&self) -> u32 {
-        0xffff_0000 | ((1 << self.real_count) - 1)
+    /// Real inputs and outputs: 0, 8 or 16.
+    pub(crate) fn real_count(&self) -> u16 {
+        (self.present & 0xffff).count_ones() as u16
     }
 
     /// Outputs that a limit program may use.
     pub(crate) fn assigned(&self) -> u32 {
         if self.setup.independent {
-            return self.present();
+            return self.present;
         }
         self.groups
             .iter()

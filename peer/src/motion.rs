@@ -160,6 +160,7 @@ impl Motion {
         }
     }
 
+    #[inline]
     pub fn step(&mut self, q: u16, setup: &Setup) -> Updates {
         let moved = self.last_q.map_or(0, |last_q| movement(q, last_q));
         self.last_q = Some(q);
@@ -184,6 +185,7 @@ impl Motion {
     }
 
     /// Tells whether the step is a stop: an update with rpm 0.
+    #[inline]
     fn sum_for_speed(&mut self, moved: i32, setup: &Setup) -> bool {
         self.speed_sum += moved;
         self.speed_steps += 1;

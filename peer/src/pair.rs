@@ -26,11 +26,11 @@ impl Pair {
 
 /// (to − from) mod SF, for counts below SF.
 pub fn distance(from: u16, to: u16, scale: u16) -> u16 {
-    let difference = i32::from(to) - i32::from(from);
-    if difference < 0 {
-        (difference + i32::from(scale)) as u16
+    let difference = to.wrapping_sub(from);
+    if to < from {
+        difference.wrapping_add(scale)
     } else {
-        difference as u16
+        difference
     }
 }
 

@@ -1,15 +1,16 @@
 //! One step of 200 µs: nine words in, outputs and readings out.
 
-use crate::group::{Group, GroupPosition, GroupSample, Kind};
+use crate::group::{Group, GroupSample, Kind, GROUPS};
 use crate::module::{Module, Refusal};
 use crate::motion::{direction_count, machine_position, MachinePosition, Reading, TURN};
+use crate::switch::OUTPUTS;
+use crate::windows::Tests;
 
 /// Words of a sample.
 pub const SAMPLE_WORDS: usize = 9;
 
-/// Bits of the LS Enable and First Cycle Input among a kind's inputs.
+/// Bit of the LS Enable Input among a kind's inputs.
 const LS_ENABLE: u16 = 6;
-pub(crate) const FIRST_CYCLE: u16 = 7;
 
 const REAL: u32 = 0x0000_ffff;
 const VIRTUAL: u32 = 0xffff_0000;
@@ -69,19 +70,17 @@ struct StepView {
     machine: MachinePosition,
     /// Active inputs, forces applied.
     inputs: u32,
-    reading: Reading,
+    turning: bool,
     stop: bool,
 }
 
 impl StepView {
-    fn for_group(&self, index: usize, group: &Group) -> GroupSample {
-        let input = group.program.kind.first_bit() + index as u16;
-        let first_cycle = group.program.first_cycle_kind.first_bit() + FIRST_CYCLE;
+    fn for_group(&self, group: &Group) -> GroupSample {
         GroupSample {
             machine: self.machine,
-            input: bit(self.inputs, input),
-            first_cycle: bit(self.inputs, first_cycle),
-            turning: self.reading.rpm != 0,
+            input: self.inputs & group.input != 0,
+            first_cycle: self.inputs & group.first_cycle != 0,
+            turning: self.turning,
             stop: self.stop,
         }
     }
@@ -93,18 +92,19 @@ impl Module {
     /// virtual outputs.
     pub fn step(&mut self, sample: &[u16; SAMPLE_WORDS]) -> StepAnswer {
         let inputs = self.active_inputs(sample);
-        let answer = if sample[0] >= TURN || self.fault {
-            self.fault_step(sample)
+        if sample[0] >= TURN || self.fault {
+            self.fault_step(sample);
         } else {
-            self.sound_step(sample, inputs)
-        };
-        self.last_answer = answer;
+            self.sound_step(sample, inputs, &mut Tests::default());
+        }
         self.last_inputs = inputs as u16;
-        self.interrupt.request |= answer.changed != 0;
-        answer
+        self.interrupt.request |= self.last_answer.changed != 0;
+        self.last_answer
     }
 
-    fn sound_step(&mut self, sample: &[u16; SAMPLE_WORDS], inputs: u32) -> StepAnswer {
+    // A call of its own, so that what is lent to the tests lies in memory.
+    #[inline(never)]
+    fn sound_step(&mut self, sample: &[u16; SAMPLE_WORDS], inputs: u32, tests: &mut Tests) {
         let raw = sample[0];
         self.last_raw = raw;
         let q = direction_count(raw, self.setup.counter_clockwise);
@@ -116,60 +116,48 @@ impl Module {
         let view = StepView {
             machine,
             inputs,
-            reading: self.motion.reading,
+            turning: self.motion.reading.rpm != 0,
             stop: updates.stop,
         };
-        let mut tests = 0;
-        let lit = if self.setup.independent {
-            self.independent_outputs(&view, &mut tests)
-        } else {
-            self.group_outputs(&view, &mut tests)
-        };
-        StepAnswer {
-            tests,
-            ..self.answer(sample, machine, view.reading, lit & !self.blocked(inputs))
-        }
+        let lit = self.lit(&view, tests) & !self.blocked(inputs);
+        self.answer(sample, machine, self.motion.reading, lit);
+        self.last_answer.tests = tests.count as u16;
     }
 
-    fn fault_step(&mut self, sample: &[u16; SAMPLE_WORDS]) -> StepAnswer {
+    fn fault_step(&mut self, sample: &[u16; SAMPLE_WORDS]) {
         self.fault = true;
         self.module_start();
         let position = self.last_answer.machine_position;
-        StepAnswer {
-            refusal: Some(Refusal::TransducerFault),
-            ..self.answer(sample, position, Reading::FAULT, 0)
-        }
+        self.answer(sample, position, Reading::FAULT, 0);
+        self.last_answer.refusal = Some(Refusal::TransducerFault);
     }
 
     /// A real input is active where its current equals its active state.
     pub(crate) fn active_inputs(&self, sample: &[u16; SAMPLE_WORDS]) -> u32 {
         let [_, currents, virtual_inputs, on, off, ..] = *sample;
         let real = join(!(currents ^ self.setup.active_states), virtual_inputs);
-        forced(real, join(on, 0), join(off, 0)) & self.present()
+        forced(real, join(on, 0), join(off, 0)) & self.present
     }
 
-    /// Outputs whose switch holds; the pairs tested are counted.
-    fn independent_outputs(&mut self, view: &StepView, tests: &mut u16) -> u32 {
-        let all = self.switches.programmed;
+    /// Outputs whose switch holds, in Group Mode those in an open group; the
+    /// pairs tested are counted.
+    fn lit(&mut self, view: &StepView, tests: &mut Tests) -> u32 {
         let scale = self.setup.scale;
-        self.switches.holding(all, view.machine.0, scale, tests)
-    }
-
-    /// Outputs whose switch holds in an open group; the pairs tested are
-    /// counted.
-    fn group_outputs(&mut self, view: &StepView, tests: &mut u16) -> u32 {
-        let scale = self.setup.scale;
+        if self.setup.independent {
+            let position = view.machine.0;
+            return self.switches.holding(0..OUTPUTS, position, scale, tests);
+        }
         let mut lit = 0;
-        for (index, group) in self.groups.iter_mut().enumerate() {
-            self.group_positions[index] = 0;
+        self.group_positions = [0; GROUPS];
+        for group in &mut self.groups {
             let Some(group) = group else { continue };
-            let sample = view.for_group(index, group);
-            let GroupPosition(position) = group.state.step(&group.program, sample, scale);
-            self.group_positions[index] = position;
+            let sample = view.for_group(group);
+            let reached = group.state.step(&group.program, sample, scale);
+            self.group_positions[group.number] = reached.0;
             // Timed switches run on while their group is closed, and closed
             // outputs are tested too.
-            let outputs = group.outputs;
-            let holding = self.switches.holding(outputs, position, scale, tests);
+            let row = group.row.clone();
+            let holding = self.switches.holding(row, reached.0, scale, tests);
             if group.state.open {
                 lit |= holding;
             }
@@ -182,8 +170,10 @@ impl Module {
     pub(crate) fn blocked(&self, inputs: u32) -> u32 {
         let by_inputs = if self.setup.independent {
             REAL & !inputs
-        } else {
+        } else if self.switches.enable_anded != 0 {
             self.switches.enable_anded & !enabled(inputs)
+        } else {
+            0
         };
         let anded = self.switches.detector_anded.iter();
         anded
@@ -192,21 +182,26 @@ impl Module {
             .fold(by_inputs, |blocked, (anded, _)| blocked | anded)
     }
 
-    /// Applies the output forces and counts the changed virtual outputs.
+    /// Applies the output forces and counts the changed virtual outputs. The
+    /// answer is left in the module, without pair tests.
     fn answer(
-        &self,
+        &mut self,
         sample: &[u16; SAMPLE_WORDS],
         machine_position: MachinePosition,
         reading: Reading,
         lit: u32,
-    ) -> StepAnswer {
+    ) {
         let [.., real_on, real_off, virtual_on, virtual_off] = *sample;
         let on = join(real_on, virtual_on);
         let off = join(real_off, virtual_off);
-        let outputs = forced(lit, on, off) & self.present();
+        let outputs = forced(lit, on, off) & self.present;
         let virtual_outputs = (outputs >> 16) as u16;
-        let changed = changed_count(self.last_answer.virtual_outputs, virtual_outputs);
-        StepAnswer {
+        let changed = if self.setup.interrupt {
+            changed_count(self.last_answer.virtual_outputs, virtual_outputs)
+        } else {
+            0
+        };
+        self.last_answer = StepAnswer {
             refusal: None,
             machine_position,
             rpm: reading.rpm,
@@ -215,9 +210,9 @@ impl Module {
             detectors: reading.detectors,
             real_outputs: outputs as u16,
             virtual_outputs,
-            changed: if self.setup.interrupt { changed } else { 0 },
+            changed,
             tests: 0,
-        }
+        };
     }
 }
 

@@ -1,6 +1,8 @@
 //! Limit switches: whether one holds at a position, and the nudging of its
 //! setpoints.
 
+use std::ops::Range;
+
 use crate::blocks::LIMIT_BLOCK_WORDS;
 use crate::limit_block::{
     advances, anded_detector, block_pair, pulse_errors, setpoint_errors, switch_type, SwitchType,
@@ -9,6 +11,7 @@ use crate::limit_block::{
 use crate::motion::{advance_shift, moved_length, moved_setpoint, STEPS_PER_MS};
 use crate::pair::{distance, Pair};
 use crate::pulse::pulse_holds;
+use crate::windows::{Moved, Tests, Windows};
 
 pub const OUTPUTS: usize = 32;
 
@@ -18,26 +21,6 @@ pub(crate) enum Action {
     Normal,
     Pulse { quantity: u16, on_count: u16 },
     Timed { steps: u32 },
-}
-
-/// Counts from `start` on, in which a pair moved by its advances holds: 0 to
-/// SF of them.
-#[derive(Clone, Copy, Debug, Default, PartialEq, Eq)]
-struct Window {
-    start: u16,
-    length: u16,
-}
-
-impl Window {
-    /// At a length of 0 or less a pair never holds, at SF or more always.
-    fn of_length(start: u16, length: i64, scale: u16) -> Window {
-        let length = length.clamp(0, i64::from(scale)) as u16;
-        Window { start, length }
-    }
-
-    fn holds(self, position: u16, scale: u16) -> bool {
-        distance(self.start, position, scale) < self.length
-    }
 }
 
 /// How long a timed switch's pair has held.
@@ -96,27 +79,25 @@ impl Nudge {
 /// A programmed limit switch.
 #[derive(Clone, Debug, PartialEq, Eq)]
 pub struct Switch {
+    /// Of the used pairs, moved by the advances at the present c.
+    windows: Windows,
     pub(crate) action: Action,
     /// As programmed; pulse and timed switches use the first only.
     pub(crate) pairs: [Pair; PAIRS],
     /// ON and OFF advance in tenths of a ms.
     pub(crate) advances: [i16; 2],
-    /// The used pairs in block order, moved by the advances at the present c.
-    windows: [Window; PAIRS],
-    used: usize,
+    /// The moved ON setpoint of the first pair, at which a pulse train starts.
+    train_start: u16,
     timer: Timer,
 }
 
 impl Switch {
     const UNPROGRAMMED: Switch = Switch {
+        windows: Windows::NONE,
         action: Action::Normal,
         pairs: [Pair { on: 0, off: 0 }; PAIRS],
         advances: [0; 2],
-        windows: [Window {
-            start: 0,
-            length: 0,
-        }; PAIRS],
-        used: 0,
+        train_start: 0,
         timer: Timer {
             held: false,
             passed: 0,
@@ -144,19 +125,17 @@ impl Switch {
         for (index, pair) in switch.pairs.iter_mut().take(pair_count).enumerate() {
             *pair = block_pair(block, index);
         }
+        switch.windows = Windows::of(&switch.pairs);
         switch
     }
 
     /// Moves the used pairs by the advances. 0/0 is judged unmoved.
     pub fn place(&mut self, c: i32, scale: u16) {
         let shifts = self.shifts(c, scale);
-        self.used = 0;
-        for &pair in self.pairs.iter().filter(|pair| !pair.is_unused()) {
-            let start = moved_setpoint(pair.on, shifts[0], scale);
-            let length = self.length(pair, shifts, scale);
-            self.windows[self.used] = Window::of_length(start, length, scale);
-            self.used += 1;
-        }
+        let back = moved_setpoint(0, -shifts[0], scale);
+        let moved = Moved::new(back, self.longer(shifts), scale);
+        self.windows.place(&self.pairs, moved, scale);
+        self.train_start = moved.setpoint(self.pairs[0].on, scale);
     }
 
     /// ON and OFF shift at a c.
@@ -165,49 +144,53 @@ impl Switch {
             .map(|advance| advance_shift(advance, c, scale))
     }
 
-    /// The length of a used pair moved by these shifts; a pulse train keeps
-    /// its own.
-    fn length(&self, pair: Pair, [on_shift, off_shift]: [i64; 2], scale: u16) -> i64 {
-        let length = pair.length(scale);
+    /// Counts by which these shifts make a used pair longer; a pulse train keeps
+    /// its length.
+    fn longer(&self, [on_shift, off_shift]: [i64; 2]) -> i64 {
         match self.action {
-            Action::Pulse { .. } => i64::from(length),
-            Action::Normal | Action::Timed { .. } => moved_length(length, on_shift, off_shift),
+            Action::Pulse { .. } => 0,
+            Action::Normal | Action::Timed { .. } => moved_length(0, on_shift, off_shift),
         }
     }
 
     /// The lengths of the used pairs at a c.
     pub(crate) fn lengths(&self, c: i32, scale: u16) -> impl Iterator<Item = i64> + '_ {
-        let shifts = self.shifts(c, scale);
+        let longer = self.longer(self.shifts(c, scale));
         let used = self.pairs.iter().filter(|pair| !pair.is_unused());
-        used.map(move |&pair| self.length(pair, shifts, scale))
+        used.map(move |pair| i64::from(pair.length(scale)) + longer)
     }
 
     pub fn restart_timer(&mut self) {
         self.timer = Timer::default();
     }
 
-    /// Whether some used pair holds at a position. They are tested in block
-    /// order up to the first that does; each test is counted.
-    pub(crate) fn some_pair_holds(&self, position: u16, scale: u16, tests: &mut u16) -> bool {
-        self.windows[..self.used].iter().any(|window| {
-            *tests += 1;
-            match self.action {
-                Action::Pulse { quantity, on_count } => {
-                    let distance = distance(window.start, position, scale);
-                    pulse_holds(distance, window.length, quantity, on_count)
-                }
-                Action::Normal | Action::Timed { .. } => window.holds(position, scale),
-            }
-        })
-    }
-
     /// Whether the switch holds at a position; a timed switch's time runs. The
     /// pairs tested are counted.
     pub fn holds(&mut self, position: u16, scale: u16, tests: &mut u16) -> bool {
-        let holds = self.some_pair_holds(position, scale, tests);
+        let mut made = Tests::default();
+        let in_window = self.windows.some_holds(position, &mut made);
+        *tests += made.count as u16;
+        self.acts(in_window, position, scale)
+    }
+
+    /// The pairs that are tested at a position.
+    pub(crate) fn tests(&self, position: u16) -> u16 {
+        let mut tests = Tests::default();
+        self.windows.some_holds(position, &mut tests);
+        tests.count as u16
+    }
+
+    /// Whether the switch holds at a position that is or is not in a window; a
+    /// timed switch's time runs.
+    fn acts(&mut self, in_window: bool, position: u16, scale: u16) -> bool {
         match self.action {
-            Action::Timed { steps } => self.timer.step(holds, steps),
-            Action::Normal | Action::Pulse { .. } => holds,
+            Action::Normal => in_window,
+            Action::Timed { steps } => self.timer.step(in_window, steps),
+            Action::Pulse { quantity, on_count } => {
+                let distance = distance(self.train_start, position, scale);
+                let length = self.pairs[0].length(scale);
+                in_window && pulse_holds(distance, length, quantity, on_count)
+            }
         }
     }
 
@@ -242,6 +225,8 @@ impl Switch {
 pub struct Switches {
     pub programs: [Switch; OUTPUTS],
     pub programmed: u32,
+    /// Those whose switch may be dark within its windows.
+    timed_or_pulse: u32,
     pub enable_anded: u32,
     pub detector_anded: [u32; 2],
 }
@@ -250,6 +235,7 @@ impl Switches {
     pub const NONE: Switches = Switches {
         programs: [const { Switch::UNPROGRAMMED }; OUTPUTS],
         programmed: 0,
+        timed_or_pulse: 0,
         enable_anded: 0,
         detector_anded: [0; 2],
     };
@@ -257,8 +243,12 @@ impl Switches {
     /// Programs an output, counted from 0, from a block without errors.
     pub(crate) fn program(&mut self, output: usize, block: &[u16; LIMIT_BLOCK_WORDS]) {
         let bit = 1 << output;
-        self.programs[output] = Switch::decode(block);
+        let switch = Switch::decode(block);
         self.programmed |= bit;
+        if switch.action != Action::Normal {
+            self.timed_or_pulse |= bit;
+        }
+        self.programs[output] = switch;
         if block[0] & ENABLE_BIT != 0 {
             self.enable_anded |= bit;
         }
@@ -276,21 +266,44 @@ impl Switches {
     }
 
     pub fn restart_timers(&mut self) {
-        for output in bits_of(self.programmed) {
+        for output in bits_of(self.timed_or_pulse) {
             self.programs[output].restart_timer();
         }
     }
 
-    /// Those of `outputs` whose switch holds at a position; the pairs tested
-    /// are counted.
-    pub fn holding(&mut self, outputs: u32, position: u16, scale: u16, tests: &mut u16) -> u32 {
-        let mut holding = 0;
-        for output in bits_of(outputs & self.programmed) {
-            if self.programs[output].holds(position, scale, tests) {
-                holding |= 1 << output;
+    /// Those of a row of outputs whose switch holds at a position; the pairs
+    /// tested are counted.
+    #[inline]
+    pub(crate) fn holding(
+        &mut self,
+        row: Range<usize>,
+        position: u16,
+        scale: u16,
+        tests: &mut Tests,
+    ) -> u32 {
+        let switches = self.programs[row.clone()].iter().rev();
+        let in_windows = switches.fold(0, |found, switch| {
+            found << 1 | u32::from(switch.windows.some_holds(position, tests))
+        });
+        let in_windows = in_windows << row.start;
+        if self.timed_or_pulse == 0 {
+            return in_windows;
+        }
+        self.acting(row, in_windows, position, scale)
+    }
+
+    /// Those of a row whose switch holds, where those with the position in a
+    /// window are known; the time of timed switches runs.
+    #[inline(never)]
+    fn acting(&mut self, row: Range<usize>, in_windows: u32, position: u16, scale: u16) -> u32 {
+        let mut acting = in_windows;
+        for output in bits_of(self.timed_or_pulse).filter(|output| row.contains(output)) {
+            let bit = 1 << output;
+            if !self.programs[output].acts(in_windows & bit != 0, position, scale) {
+                acting &= !bit;
             }
         }
-        holding
+        acting
     }
 }
 

@@ -1,11 +1,11 @@
 //! The checksum of the bench, made again from the replay program's lines
-//! with the programming, samples and frames of docs/BENCH.md.
+//! with the programming, samples, cycles and frames of docs/BENCH.md.
 
 mod common;
 
 use std::collections::BTreeSet;
 
-use common::{group_file, limit_file, run_with_arguments};
+use common::{group_file, limit_file, run_with_arguments, sample};
 use peer::generate::CallList;
 use peer::replay;
 
@@ -52,8 +52,31 @@ fn small() -> Programming {
     }
 }
 
-/// The replay program's lines for the programming and the steps.
-fn lines(programming: &Programming, steps: u64) -> Vec<Vec<String>> {
+/// The full card with every group of Mode 1, always open, and pairs of one
+/// count.
+fn every_pair() -> Programming {
+    let limit = |n: u16| {
+        let advance = if n & 1 == 0 { 999 } else { -999i16 as u16 };
+        let detector = if n & 1 == 0 { 0x2000 } else { 0x4000 };
+        let mut block = vec![detector, advance, advance];
+        for k in 0..8 {
+            let on = (31 * n + 125 * k) % 1000;
+            block.extend([on, if on == 999 { 0 } else { on + 1 }]);
+        }
+        block
+    };
+    let group = |control: u16| [0x8100 | control, 900, 100, 50];
+    Programming {
+        groups: [0x05, 0x05, 0x06, 0x4005, 0x4005, 0x4006]
+            .map(group)
+            .to_vec(),
+        limits: (0..32).map(limit).collect(),
+        ..full()
+    }
+}
+
+/// A list that powers up and programs a module; and its limit file.
+fn programmed(programming: &Programming) -> (CallList, [u16; 650]) {
     let mut list = CallList::default();
     list.power_up(programming.number);
     let mut setup = [0; 120];
@@ -63,22 +86,48 @@ fn lines(programming: &Programming, steps: u64) -> Vec<Vec<String>> {
     let blocks: Vec<(usize, &[u16])> = (1..)
         .zip(programming.limits.iter().map(|block| &block[..]))
         .collect();
-    list.file(3, &limit_file(&blocks));
+    let limits = limit_file(&blocks);
+    list.file(3, &limits);
+    (list, limits)
+}
+
+/// The sample of step i.
+fn sample_of(i: u64) -> [u16; 9] {
+    let p = i % 8192;
+    let raw = (2 * p + p * p / 4096) % 1024;
+    sample(raw as u16, (i / 32) as u16, (i / 16) as u16)
+}
+
+/// The replay program's lines for the programming and the steps; `raw` is
+/// every sample's raw position, where it is given.
+fn lines_at(programming: &Programming, steps: u64, raw: Option<u16>) -> Vec<Vec<String>> {
+    let (mut list, _) = programmed(programming);
     for i in 0..steps {
-        let p = i % 8192;
-        let raw = (2 * p + p * p / 4096) % 1024;
-        list.step(&[
-            raw as u16,
-            (i / 32) as u16,
-            (i / 16) as u16,
-            0,
-            0,
-            0,
-            0,
-            0,
-            0,
-        ]);
+        let mut sample = sample_of(i);
+        sample[0] = raw.unwrap_or(sample[0]);
+        list.step(&sample);
     }
+    fields_of(&list)
+}
+
+fn lines(programming: &Programming, steps: u64) -> Vec<Vec<String>> {
+    lines_at(programming, steps, None)
+}
+
+/// The replay program's lines for the turns of case p: four of the
+/// programming, one that ends its limit cycle, two of each turn and a step.
+fn lines_of_cycles(turns: u64) -> Vec<Vec<String>> {
+    let (mut list, mut limits) = programmed(&full());
+    limits[0] = 0;
+    list.file(3, &limits);
+    for i in 0..turns {
+        limits[5] = 500 + (i % 400) as u16;
+        for command in [0x8000, 0] {
+            limits[0] = command;
+            list.file(3, &limits);
+        }
+    }
+    list.step(&sample_of(turns));
     fields_of(&list)
 }
 
@@ -139,7 +188,12 @@ fn frame_checksum(lines: &[Vec<String>]) -> u64 {
 }
 
 fn checksum(steps: &[Vec<String>]) -> u64 {
-    steps.iter().fold(0, |sum, fields| {
+    checksum_from(0, steps)
+}
+
+/// The checksum that the lines of steps make of the one before them.
+fn checksum_from(sum: u64, steps: &[Vec<String>]) -> u64 {
+    steps.iter().fold(sum, |sum, fields| {
         let decimal = |field: usize| -> u64 { fields[field].parse().expect("decimal") };
         let hex = |field: usize| u64::from_str_radix(&fields[field], 16).expect("hexadecimal");
         let flags = 4 * decimal(5) + 2 * decimal(6) + decimal(7);
@@ -155,6 +209,22 @@ fn checksum(steps: &[Vec<String>]) -> u64 {
     })
 }
 
+/// The checksum of the lines of case p's turns and its step.
+fn checksum_of_cycles(turns: &[Vec<String>]) -> u64 {
+    let (step, turns) = turns.split_last().expect("a step");
+    let outcome = |fields: &[String]| -> u64 {
+        match fields[1].as_str() {
+            "idle" => 65535,
+            number => number.parse().expect("decimal"),
+        }
+    };
+    let (turns, _) = turns.as_chunks::<2>();
+    let sum = turns.iter().fold(0, |sum, [sent, ended]| {
+        (31 * sum + 65536 * outcome(sent) + outcome(ended)) % 4_294_967_296
+    });
+    checksum_from(sum, std::slice::from_ref(step))
+}
+
 fn bench(case: &str, steps: u64) -> String {
     let output = run_with_arguments(env!("CARGO_BIN_EXE_bench"), &[case, &steps.to_string()]);
     assert!(output.status.success());
@@ -163,9 +233,15 @@ fn bench(case: &str, steps: u64) -> String {
 
 #[test]
 fn checksums_are_those_of_the_replay_program() {
-    for (case, programming) in [("a", full()), ("b", small())] {
+    let cases = [
+        ("a", full(), None),
+        ("b", small(), None),
+        ("x", every_pair(), None),
+        ("f", full(), Some(1024)),
+    ];
+    for (case, programming, raw) in cases {
         for steps in [0, 1, 9000] {
-            let lines = lines(&programming, steps);
+            let lines = lines_at(&programming, steps, raw);
             let (calls, steps_lines) = lines.split_at(4);
             assert!(
                 calls.iter().all(|fields| fields[1] == "0"),
@@ -174,6 +250,15 @@ fn checksums_are_those_of_the_replay_program() {
             let expected = format!("{case} {steps} {}\n", checksum(steps_lines));
             assert_eq!(bench(case, steps), expected);
         }
+    }
+}
+
+#[test]
+fn checksums_of_cycles_are_those_of_the_replay_program() {
+    for turns in [0, 1, 2, 900] {
+        let lines = lines_of_cycles(turns);
+        let checksum = checksum_of_cycles(&lines[5..]);
+        assert_eq!(bench("p", turns), format!("p {turns} {checksum}\n"));
     }
 }
 
@@ -218,17 +303,72 @@ fn outputs_of_the_full_card_all_light() {
     let seen = |field: usize| -> BTreeSet<&String> {
         lines[4..].iter().map(|fields| &fields[field]).collect()
     };
+    assert_eq!(lit_in(&lines[4..]), [0xffff; 2]);
     for field in [8, 9] {
-        let lit = seen(field).iter().fold(0, |lit, word| {
-            lit | u16::from_str_radix(word, 16).expect("hexadecimal")
-        });
-        assert_eq!(lit, 0xffff);
         assert!(seen(field).len() > 100);
     }
     assert!(seen(3).len() > 10, "speeds");
     assert!(seen(10).len() > 3, "changed counts");
     assert!(seen(12).len() > 30, "counts of tests");
     assert_eq!(seen(1).len(), 1);
+}
+
+/// The outputs, real and virtual, that some of the steps light.
+fn lit_in(steps: &[Vec<String>]) -> [u16; 2] {
+    [8, 9].map(|field| {
+        steps.iter().fold(0, |lit, fields| {
+            lit | u16::from_str_radix(&fields[field], 16).expect("hexadecimal")
+        })
+    })
+}
+
+/// All six groups are open, and no output's detector is off for good.
+#[test]
+fn nearly_every_pair_is_tested_in_case_x() {
+    let lines = lines(&every_pair(), 9000);
+    let tests: Vec<u64> = lines[4..]
+        .iter()
+        .map(|fields| fields[12].parse().expect("decimal"))
+        .collect();
+    let all = tests.iter().filter(|&&tests| tests == 256).count();
+    assert!(all > tests.len() * 3 / 4, "{all} steps with all pairs");
+    assert!(tests.iter().sum::<u64>() > 254 * 9000);
+    assert_eq!(lit_in(&lines[4..]), [0xffff; 2]);
+}
+
+#[test]
+fn every_step_of_case_f_is_answered_11() {
+    let lines = lines_at(&full(), 5000, Some(1024));
+    for fields in &lines[4..] {
+        assert_eq!(fields.join(" "), "step 11 0 0 0 0 0 0 0000 0000 0 0 0");
+    }
+}
+
+/// Each turn's limit program is accepted and its end is Idle; the step after
+/// them runs by the last one.
+#[test]
+fn each_turn_of_case_p_is_accepted_and_ended() {
+    let lines = lines_of_cycles(450);
+    assert!(lines[..4].iter().all(|fields| fields[1] == "0"));
+    assert_eq!(lines[4][1], "idle");
+    let (step, turns) = lines[5..].split_last().expect("a step");
+    assert_eq!(turns.len(), 900);
+    for turn in turns.chunks(2) {
+        assert_eq!([&turn[0][0], &turn[0][1]], ["limit", "0"]);
+        assert_eq!([&turn[1][0], &turn[1][1]], ["limit", "idle"]);
+    }
+    assert_eq!([&step[0], &step[1]], ["step", "0"]);
+    assert_ne!(step[12], "0", "pairs tested");
+}
+
+/// By hand: without a turn one step is made with the sample of step 0, at
+/// Machine Position 10, and rpm, tach and detectors are 0.
+#[test]
+fn cases_f_and_p_by_hand() {
+    // 11 stands alone: three numbers of 0, and 2^26 in the third place of four.
+    assert_eq!(bench("f", 1), format!("f 1 {}\n", 31 * 67_108_864u64));
+    let step = &lines_of_cycles(0)[5];
+    assert_eq!(step[..5], ["step", "0", "10", "0", "0"]);
 }
 
 #[test]

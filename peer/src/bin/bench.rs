@@ -1,4 +1,5 @@
-//! Runs steps or frames from memory and prints a checksum over their answers.
+//! Runs steps, programming cycles or frames from memory and prints a checksum
+//! over their answers.
 
 use std::process::ExitCode;
 
@@ -6,7 +7,7 @@ use peer::{bench, words};
 
 fn main() -> ExitCode {
     words::write_from_arguments(
-        "bench a N | bench b N | bench w N | bench r N",
+        "bench a N | bench b N | bench x N | bench f N | bench p N | bench w N | bench r N",
         |arguments| bench::line(arguments, bench::run),
     )
 }

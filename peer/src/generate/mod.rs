@@ -18,7 +18,7 @@ mod frame_lists;
 mod frame_parts;
 mod ladder;
 mod length_lists;
-mod numbers;
+pub(crate) mod numbers;
 mod paced_list;
 mod pair_test_lists;
 #[cfg(test)]

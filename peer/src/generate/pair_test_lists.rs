@@ -181,8 +181,7 @@ impl PairTests {
     fn see_output(&mut self, step: &SeenStep, output: usize, position: u16) -> u64 {
         let (c, scale) = (step.module.motion.c, step.module.setup.scale);
         let switch = &step.module.switches.programs[output];
-        let mut tests = 0;
-        switch.some_pair_holds(position, scale, &mut tests);
+        let tests = switch.tests(position);
         if !matches!(switch.action, Action::Pulse { .. }) {
             for length in switch.lengths(c, scale).take(usize::from(tests)) {
                 self.never += u64::from(length <= 0);
@@ -348,7 +347,7 @@ mod tests {
         }
 
         fn step(&mut self, step: &SeenStep) {
-            let real = step.module.real_count;
+            let real = step.module.real_count();
             if step.answer.refusal.is_some() {
                 return self.see("11");
             }

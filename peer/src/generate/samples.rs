@@ -2,8 +2,9 @@
 
 use crate::generate::numbers::Numbers;
 use crate::generate::program::Program;
+use crate::group::FIRST_CYCLE;
 use crate::motion::ADVANCE_STEPS;
-use crate::step::{FIRST_CYCLE, SAMPLE_WORDS};
+use crate::step::SAMPLE_WORDS;
 
 /// Parts of a count in which position and speed are kept.
 const PARTS: i64 = 1 << 16;

@@ -62,27 +62,46 @@ impl ScaleFactor {
         (n % sf) as u16
     }
 
-    // (a + b) mod SF. In range one comparison and one subtraction, else the remainder.
+    // (a + b) mod SF. Below two turns one subtraction at most, else the remainder.
     pub fn sum(self, a: u16, b: u16) -> u16
         ensures { result ≡ (a + b) % factor self }
     {
-        let top = self.top;
-        if top < a || top < b {
-            return ((a as u32 + b as u32) % self.whole()) as u16;
+        let n = a as u32 + b as u32;
+        let top = self.top as u32;
+        if n <= top {
+            return n as u16;
         }
-        if a <= top - b {
-            return a + b;
+        let over = n - top - 1;
+        if over <= top {
+            return over as u16;
         }
-        a - (top - b) - 1
+        (n % (top + 1)) as u16
     }
 
-    // A pair holds at p.
+    // A pair holds at p by the distances from its ON setpoint, whatever the three are.
     #[tactic(auto, unfolding(rules::specs::Counts::holds))]
+    fn holds_ahead(self, pair: Pair, p: u16) -> bool
+        ensures { result ≡ counts.holds (factor self) pair.on pair.off p }
+    {
+        self.ahead(pair.on, p) < self.ahead(pair.on, pair.off)
+    }
+
+    // A pair holds at p: nowhere if it is equal, and in range from ON up to OFF, through 0 where ON is the higher.
+    #[tactic(auto, using(crate::proofs::Pairs::equal_pair, rules::proofs::Laws::ahead_up, rules::proofs::Laws::ahead_round), unfolding(rules::specs::Counts::holds))]
     pub fn holds(self, pair: Pair, p: u16) -> bool
         ensures { result ≡ counts.holds (factor self) pair.on pair.off p }
     {
         let Pair { on, off } = pair;
-        self.ahead(on, p) < self.ahead(on, off)
+        if on == off {
+            return false;
+        }
+        if self.top < on || self.top < off || self.top < p {
+            return self.holds_ahead(pair, p);
+        }
+        if on < off {
+            return on <= p && p < off;
+        }
+        on <= p || p < off
     }
 
     // A setpoint out of range, or an equal pair that is not 0/0.

@@ -1,6 +1,7 @@
 -- What `array::from_fn` makes and chains of iterators find, in the words of the rules: tables, and tests over a range. Assumes nothing.
 use Rattle.std.proofs.Common.{ℕ, zero, suc, refl, ◌≡◌, ◌+◌, ◌≤◌, ◌<◌, Bool, List, [], ◌∷◌, length, filter, get_or, add-one, sym, ◌∙◌, arith, inl, inr}
-use Rattle.std.proofs.lemmas.List.{same_lists}
+use native.Mathlib.Nat.{zero-add}
+use Rattle.std.proofs.lemmas.List.{same_lists, get_or_default}
 use Rattle.std.proofs.lemmas.Bool.{cases_eq}
 use Rattle.std.proofs.lemmas.Bool.Decides.{nat_tests}
 use Rattle.std.specs.Array.{IsFromFnResultFrom, IsFromFnResult}
@@ -15,6 +16,10 @@ table_is xs n i f l h =
     same_lists xs (table n i f) (l ∙ sym (length_table n i f)) (λ k d b.
     let w : k < n = omega arith in
     h k d w ∙ sym (get_d_table n i f d k w))
+
+-- a list of n numbers
+pub as_table : (n : ℕ) (xs : List ℕ) → length xs ≡ n → xs ≡ table n 0 (λ k. get_or xs k 0)
+as_table n xs h = table_is xs n 0 (λ k. get_or xs k 0) h (λ k d b. rw (zero-add k) (get_or_default xs k d 0 (omega (arith, h))))
 
 -- what `from_fn` makes of a closure that changes nothing and gives h k at k
 module _ {F B : Type 0} (g : Mut F (ℕ × Unit {0}) B) (s : F) (ys : List B) (h : ℕ → B) (n : ℕ)

@@ -1,5 +1,5 @@
 // The card's own loop: the calls on a module that a host keeps where it sits, exported for C and Rust. include/chimneyrye.h is their header. The module
-// is lent as the engine has it; each call is a call by value on what lies there, and stores what that call gives back. C has no Result: a refusal is
+// is lent as the engine has it. A step is the engine's own; each other call is one by value on what lies there, and stores what that call gives back. C has no Result: a refusal is
 // answered by its number.
 
 #![tactic(auto)]
@@ -85,17 +85,12 @@ pub extern "C" fn chimneyrye_nudge(m: &mut Module, word: u16) -> u16
     give(m, r)
 }
 
-// One step, on the module where it sits. What a step does not change is not stored: stored whole, the module would be copied several times in every step.
-#[tactic(auto, unfolding(rules::specs::Card::step_call))]
+// One step.
 #[unsafe(no_mangle)]
 pub extern "C" fn chimneyrye_step(m: &mut Module, s: Sample) -> Answer
     ensures { (m.new ≡ (card.step_call m.old s).card) × (result ≡ (card.step_call m.old s).answer) }
 {
-    let c = engine::change_of(*m, s);
-    m.state = c.state;
-    m.configuration.raw = c.raw;
-    m.configuration.fault = c.fault;
-    c.answer
+    engine::step_in_place(m, s)
 }
 
 // A byte of the rack bus read.

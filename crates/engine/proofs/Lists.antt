@@ -1,4 +1,4 @@
--- Laws of lists that a step cites: tables filled upwards and downwards by a loop, and the sum of one made downwards.
+-- Laws of lists that a step cites: tables filled upwards and downwards by a loop, also where the old list lies.
 -- Assumes nothing.
 use Prim.Native.Nat.{ℕ, suc, ◌+◌, ◌-◌, ◌<◌, ◌≤◌}
 use mathlib.Core.List.{List}
@@ -6,10 +6,9 @@ use mathlib.Core.Path.{◌≡◌, refl, sym, ◌∙◌}
 use native.Mathlib.Numerals.{add-one}
 use native.Mathlib.Omega.{arith}
 use lib.ListN.{length, get_or, take, drop, set, length-set}
-use lib.Seq.{take-suc, take-suc-set, take_all}
-use Rattle.std.specs.List.{sum}
-use Rattle.std.proofs.lemmas.List.{drop-set, drop_all}
-use Rattle.std.proofs.lemmas.List.Sums.{sum_by-cons}
+use lib.Seq.{take-suc-set, take_all}
+use Rattle.std.specs.Prelude.{◌≢◌}
+use Rattle.std.proofs.lemmas.List.{drop-set, drop_all, get_or-set_other}
 use Rattle.rules.specs.Words.{table}
 use Rattle.rules.proofs.Packing.{table_more}
 
@@ -26,11 +25,6 @@ module _ {A : Type 0} where
   up_more n k f xs v h e q =
       let z : 0 + k ≡ k = omega arith in
       (simp length-set e.0, rw (add-one k, take-suc-set xs k v (omega arith), e.1, q) (rw z at (table_more k 0 f)))
-
-  pub up_kept : (n k : ℕ) (f : ℕ → A) (xs : List A) (d : A) → k < n → FilledUp n k f xs → get_or xs k d ≡ f k → FilledUp n (k + 1) f xs
-  up_kept n k f xs d h e q =
-      let z : 0 + k ≡ k = omega arith in
-      (e.0, rw (add-one k, take-suc xs k d (omega arith), e.1, q) (rw z at (table_more k 0 f)))
 
   pub up_all : (n k : ℕ) (f : ℕ → A) (xs : List A) → k ≡ n → FilledUp n k f xs → xs ≡ table n 0 f
   up_all n k f xs h e = sym (take_all n xs (omega arith)) ∙ rw h at e.1
@@ -57,11 +51,19 @@ module _ {A : Type 0} where
       let z : n - 0 ≡ n = omega arith in
       rw z at (rw h at e.1)
 
--- one number more of a sum made downwards
-pub sum_more : (n k : ℕ) (f : ℕ → ℕ) → 0 < k → k ≤ n → sum (table (n - k) k f) + f (k - 1) ≡ sum (table (n - (k - 1)) (k - 1) f)
-unfolding table
-sum_more n k f h l =
-    let m : n - (k - 1) ≡ suc (n - k) = omega arith in
-    let j : k - 1 + 1 ≡ k = omega arith in
-    let more = sum_by-cons (λ (x : ℕ). x) (f (k - 1)) (table (n - k) k f) in
-    rw (m, j) (omega (arith, more))
+  -- in a list that is renewed where it lies: the elements from k on are still those that it began with, or those below k
+  abbrev pub StillUp : ℕ → A → List A → List A → Type 0
+  StillUp k d old xs = (i : ℕ) → k ≤ i → get_or xs i d ≡ get_or old i d
+
+  pub still_up : (k : ℕ) (d : A) (old xs : List A) (v : A) → StillUp k d old xs → StillUp (k + 1) d old (set xs k v)
+  still_up k d old xs v h i l =
+      let other : i ≢ k = omega arith in
+      get_or-set_other xs k i v d other ∙ h i (omega arith)
+
+  abbrev pub StillDown : ℕ → A → List A → List A → Type 0
+  StillDown k d old xs = (i : ℕ) → i < k → get_or xs i d ≡ get_or old i d
+
+  pub still_down : (k : ℕ) (d : A) (old xs : List A) (v : A) → StillDown k d old xs → StillDown (k - 1) d old (set xs (k - 1) v)
+  still_down k d old xs v h i l =
+      let other : i ≢ k - 1 = omega arith in
+      get_or-set_other xs (k - 1) i v d other ∙ h i (omega arith)

@@ -1,23 +1,31 @@
 -- Laws of an output before the forces: what the kind of its switch leaves of the rule.
 -- Assumes nothing.
-use Prim.Native.Nat.{ℕ, ◌+◌}
-use mathlib.Core.Bool.{Bool, true, false, ◌&&◌, ◌||◌, and-true, true≢false}
-use mathlib.Core.Path.{◌≡◌, refl}
+use Prim.Native.Nat.{ℕ, ◌+◌, ◌*◌, ◌≤◌}
+use mathlib.Core.Bool.{Bool, true, false, ◌&&◌, and-true, true≢false}
+use mathlib.Core.Logic.{inl, inr}
+use mathlib.Core.Path.{◌≡◌, refl, sym, ap, ◌∙◌}
+use native.Mathlib.Nat.{zero-add}
 use native.Mathlib.Omega.{arith}
 use lib.Dec.{ltb}
 use lib.IntN.{ℤ}
+use mir.Val.{bool_byte}
+use borrow.Author.Tests.{ne_eqb}
+use Rattle.std.proofs.lemmas.Bool.{cases_lt}
 use Rattle.std.proofs.lemmas.Bool.Decides.{nat_tests}
 use Rattle.rules.specs.declared.Position.{Position}
 use Rattle.rules.specs.declared.Switch.{Switch}
 use Rattle.rules.specs.declared.Switch.TheVariants.{Unprogrammed, Normal, Pulse, Timed}
 use Rattle.rules.specs.declared.Limit.{Limit}
 use Rattle.rules.specs.declared.TimedState.{TimedState}
-use Rattle.rules.specs.declared.GroupPosition.{GroupPosition}
 use Rattle.rules.specs.declared.Conditions.{Conditions}
-use Rattle.rules.specs.Variants.{limit_switch}
-use Rattle.rules.specs.Motion.{c_value}
-use Rattle.rules.specs.Switches.{pair_holds, switch_holds, switch_position, passes, output_rule, timed_holds, switch_tests, output_tests}
-use Rattle.rules.specs.Card.{fresh_timed, timed_after, timed_now}
+use Rattle.rules.specs.Variants.{anded_of}
+use Rattle.rules.specs.Words.{bit, packed}
+use Rattle.rules.specs.Motion.{c_value, scale}
+use Rattle.rules.specs.Switches.{pair_holds, switch_holds, passes, switch_tests, detector_holds}
+use Rattle.rules.specs.Card.{fresh_timed, timed_after}
+use Rattle.rules.proofs.Packing.{packed_lt, packed_bit}
+use Rattle.word.proofs.Laws.{bit_past, byte_digit}
+use Rattle.engine.specs.Reading.{rule_reading, timed_reading, tests_reading}
 
 -- ---- A switch's kind
 
@@ -50,44 +58,55 @@ fresh Normal held x e = refl
 fresh (Pulse q k) held x e = refl
 fresh (Timed t) held x e = absurd (true≢false e)
 
-module _ (w : Conditions) (l : Limit) (position : GroupPosition) where
-  pub untimed_rests : (x : TimedState) → is_timed (limit_switch l) ≡ false → timed_now w l position x ≡ fresh_timed
-  unfolding timed_now
-  untimed_rests x h = fresh (limit_switch l) (timed_holds w l position) x h
+module _ (w : Conditions) (l : Limit) (q : Position) where
+  pub untimed_rests : (s : Switch) (x : TimedState) → is_timed s ≡ false → timed_reading w l s q x ≡ fresh_timed
+  untimed_rests s x h = fresh s (pair_holds (scale w) (c_value w.c) l 0 q) x h
 
   -- the switch holds, a timed one as if its time lasted
-  abbrev pub held_here : Bool
-  held_here = switch_holds (w.top + 1) (c_value w.c) l (limit_switch l) (switch_position w position) true
+  abbrev pub held_here : Switch → Bool
+  held_here s = switch_holds (scale w) (c_value w.c) l s q true
 
   -- that test makes a timed switch's state
-  pub timed_tested : (x : TimedState) (t : ℕ) → limit_switch l ≡ Timed t → timed_after (Timed t) held_here x ≡ timed_now w l position x
-  unfolding switch_holds timed_now timed_holds
-  timed_tested x t e = rw (e, and-true (timed_holds w l position))
+  pub timed_tested : (x : TimedState) (t : ℕ) → timed_after (Timed t) (held_here (Timed t)) x ≡ timed_reading w l (Timed t) q x
+  unfolding switch_holds
+  timed_tested x t = rw (and-true (pair_holds (scale w) (c_value w.c) l 0 q)) refl
 
   -- an unprogrammed one takes none
-  pub none_tested : limit_switch l ≡ Unprogrammed → output_tests w l position ≡ 0
-  unfolding output_tests switch_tests
-  none_tested e = rw e
+  pub none_tested : tests_reading w l Unprogrammed q ≡ 0
+  unfolding switch_tests
+  none_tested = refl
 
   module _ (isopen : Bool) (n : ℕ) where
     -- while a timed switch's time lasts, it is on as far as the rest of the rule lets it
-    pub timed_on : (x : TimedState) (t : ℕ) → limit_switch l ≡ Timed t → output_rule w l position isopen (ltb 0 (timed_now w l position x).left) n ≡ (ltb 0 (timed_now w l position x).left && passes w l isopen n)
-    unfolding output_rule timed_now timed_holds
-    timed_on x t e =
-        rw (e, lasts t (w.top + 1) (c_value w.c) l (switch_position w position) x)
+    pub timed_on : (x : TimedState) (t : ℕ) → rule_reading w l (Timed t) q isopen (ltb 0 (timed_reading w l (Timed t) q x).left) n ≡ (ltb 0 (timed_reading w l (Timed t) q x).left && passes w l isopen n)
+    timed_on x t = rw (lasts t (scale w) (c_value w.c) l q x) refl
 
-    pub untimed_on : (lasting : Bool) → is_timed (limit_switch l) ≡ false → output_rule w l position isopen lasting n ≡ (held_here && passes w l isopen n)
-    unfolding output_rule
-    untimed_on lasting h =
-        rw (no_time (limit_switch l) (w.top + 1) (c_value w.c) l (switch_position w position) lasting h)
+    pub untimed_on : (s : Switch) (lasting : Bool) → is_timed s ≡ false → rule_reading w l s q isopen lasting n ≡ (held_here s && passes w l isopen n)
+    untimed_on s lasting h = rw (no_time s (scale w) (c_value w.c) l q lasting h) refl
 
-    pub none_on : (lasting : Bool) → limit_switch l ≡ Unprogrammed → output_rule w l position isopen lasting n ≡ false
-    unfolding output_rule switch_holds
-    none_on lasting e = rw e
+    pub none_on : (lasting : Bool) → rule_reading w l Unprogrammed q isopen lasting n ≡ false
+    unfolding switch_holds
+    none_on lasting = refl
 
--- a timed switch that neither held nor has time left is as at a start
-rest_by : (held : Bool) (left : ℕ) → (held || ltb 0 left) ≡ false → record { held = held; left = left } ≡ fresh_timed
-rest_by held left e = grind (arith, nat_tests)
+-- ---- What is ANDed
 
-pub at_rest : (x : TimedState) → (x.held || ltb 0 x.left) ≡ false → x ≡ fresh_timed
-at_rest x e = rest_by x.held x.left e
+module _ (w : Conditions) where
+  abbrev holds_at : ℕ → Bool
+  holds_at n = detector_holds (anded_of n) w
+
+  -- bit 0 for neither, 1 and 2 for the detectors
+  as_word : 1 + 2 * bool_byte w.md1 + 4 * bool_byte w.md2 ≡ packed 3 0 holds_at
+  unfolding packed anded_of
+  as_word = omega (arith, byte_digit w.md1, byte_digit w.md2)
+
+  never : (n : ℕ) → 3 ≤ n → holds_at n ≡ false
+  unfolding anded_of
+  never n h = rw (ne_eqb n 0 (omega arith), ne_eqb n 1 (omega arith), ne_eqb n 2 (omega arith))
+
+  pub detector_bit : (n : ℕ) → bit (1 + 2 * bool_byte w.md1 + 4 * bool_byte w.md2) n ≡ detector_holds (anded_of n) w
+  detector_bit n =
+      rw as_word
+      (elim (cases_lt n 3) [
+        | inl h ↦ packed_bit 3 0 n holds_at h ∙ ap holds_at (zero-add n)
+        | inr h ↦ bit_past _ n 3 (packed_lt 3 0 holds_at) h ∙ sym (never n h)
+      ])

@@ -16,8 +16,8 @@ pub fn speed_now(u: Setup, x: Speed, s: Sample) -> Speed
 
 // Of a step that is answered 11: the last Machine Position, no speed, the detectors off.
 #[tactic(auto, unfolding(rules::specs::Motion::fault_conditions, rules::specs::Motion::real_inputs))]
-pub fn fault_conditions(g: Configuration, s: Sample, last: MachinePosition) -> Conditions
-    ensures { result ≡ motion.fault_conditions g s last }
+pub fn fault_conditions(g: &Configuration, s: Sample, last: MachinePosition) -> Conditions
+    ensures { result ≡ motion.fault_conditions g.now s last }
 {
     let u = g.programming.setup;
     Conditions {
@@ -36,8 +36,8 @@ pub fn fault_conditions(g: Configuration, s: Sample, last: MachinePosition) -> C
 
 // Of one that is not, where the speed was `before` and is `after`: where it stands and how it moves, and the inputs as in any step.
 #[tactic(auto, unfolding(rules::specs::Motion::conditions, rules::specs::Motion::fault_conditions, rules::specs::Motion::machine_at))]
-pub fn conditions_of(g: Configuration, s: Sample, before: Speed, after: Speed) -> Conditions
-    ensures { result ≡ motion.conditions g s after.c after.rpm (card.updates (motion.window_steps g.programming.setup.fast) before.long) }
+pub fn conditions_of(g: &Configuration, s: Sample, before: Speed, after: Speed) -> Conditions
+    ensures { result ≡ motion.conditions g.now s after.c after.rpm (card.updates (motion.window_steps g.now.programming.setup.fast) before.long) }
 {
     let u = g.programming.setup;
     Conditions {

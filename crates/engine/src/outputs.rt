@@ -1,31 +1,33 @@
 // The 32 outputs in a step, before the forces.
 
-ghost use Rattle.std.specs.Prelude.{◌≡◌, cond, sum, ltb};
+ghost use Rattle.std.specs.Prelude.{◌≡◌, ◌≤◌, false, cond, sum, ltb, get_or};
+ghost use Rattle.std.specs.Int.RustNames.{count_ones};
 ghost use Rattle.rules.specs.Words as words;
+ghost use Rattle.rules.specs.Variants.{anded_of};
 ghost use Rattle.rules.specs.Groups as groups;
 ghost use Rattle.rules.specs.Switches as switches;
 ghost use Rattle.rules.specs.Card as card;
+ghost use Rattle.engine.specs.Reading.{counts_read, position_read, rule_reading, timed_reading, tests_reading};
 
 use counts::ScaleFactor;
 use rules::{
-    Anded, Conditions, GroupPosition, IoType, Limit, Model, Position, Programming, Switch,
-    TimedState,
+    Conditions, GroupPosition, IoType, Limit, MachinePosition, Model, Position, Programming,
+    Switch, TimedState,
 };
-use switch::Moment;
+use switch::{Moment, Tested};
 
-// An output before the forces, its timed switch after a step, and its pair tests in it.
+// An output before the forces, its timed switch after a step, and its pairs that were tested in it, a bit for each.
 #[derive(Clone, Copy)]
 struct OutputAfter {
     pub on: bool,
     pub timed: TimedState,
-    pub tests: u16,
+    pub tested: u8,
 }
 
-// The 32 outputs before the forces, bits 0 to 15 real and 16 to 31 virtual, their timed switches, and the pair tests of those that the module has.
+// The 32 outputs before the forces, bits 0 to 15 real and 16 to 31 virtual, and the pair tests of those that the module has.
 #[derive(Clone, Copy)]
 pub struct OutputsAfter {
     pub on: u32,
-    pub timed: [TimedState; 32],
     pub tests: u16,
 }
 
@@ -34,41 +36,8 @@ impl OutputAfter {
     const OFF: OutputAfter = OutputAfter {
         on: false,
         timed: TimedState::FRESH,
-        tests: 0,
+        tested: 0,
     };
-}
-
-// What the six groups have at the number `owner`, from 1; 0 or over 6 is no group. The number is as the module stores it, for C.
-fn of_group<T: Copy>(none: T, xs: &[T; 6], owner: u16) -> T
-    ensures { result ≡ groups.of_group none xs.now owner }
-{
-    if owner == 0 {
-        return none;
-    }
-    xs.get(owner as usize - 1).copied().unwrap_or(none)
-}
-
-// The position that an output's switch reads: of its group, or Machine Position in Independent Mode.
-#[tactic(auto, unfolding(rules::specs::Switches::switch_position))]
-fn switch_position(w: Conditions, position: GroupPosition) -> Position
-    ensures { result ≡ switches.switch_position w position }
-{
-    if w.independent {
-        Position::OfMachine(w.machine)
-    } else {
-        Position::OfGroup(position)
-    }
-}
-
-// What an output's switch is tested with.
-fn moment(w: Conditions, position: GroupPosition) -> Moment
-    ensures { result ≡ record { sf = record { top = w.top }; c = w.c; position = switches.switch_position w position } }
-{
-    Moment {
-        sf: ScaleFactor::from(w),
-        c: w.c,
-        position: switch_position(w, position),
-    }
 }
 
 // The module has output n, from 0.
@@ -82,33 +51,78 @@ fn present(m: Model, n: u16) -> bool
     }
 }
 
-// The pair tests of an output that the module has; those of a missing one do not count.
-fn counted(present: bool, tests: u16) -> u16
-    ensures { result ≡ cond present tests 0 }
+// How many pairs were tested of eight outputs from n on, of which the module has all or none; those of missing ones do not count.
+fn eight_tests(m: Model, n: u16, tested: &[u8; 8]) -> u16
+    ensures tests { result ≡ cond (switches.present m n) (sum (words.table 8 0 (λ k. count_ones (get_or tested.now k 0)))) 0 }
+    ensures few { result ≤ 64 }
 {
-    if present { tests } else { 0 }
-}
-
-// The motion detector that an output is ANDed with.
-fn detector_holds(w: Conditions, d: Anded) -> bool
-    ensures { result ≡ switches.detector_holds d w }
-{
-    match d {
-        Anded::Never => false,
-        Anded::Neither => true,
-        Anded::First => w.md1,
-        Anded::Second => w.md2,
+    if present(m, n) {
+        u64::from_le_bytes(*tested).count_ones() as u16
+    } else {
+        0
     }
 }
 
-// Output n, from 0, in a step: whether the module has it, its program, and its group's position and openness. Under 16 it is real, as 01 numbers them and says
-// each rule by the half.
+// The pair tests of the outputs that the module has.
+fn pair_tests(m: Model, tested: &[u8; 32]) -> u16
+    ensures { result ≡ sum (words.table 32 0 (λ k. cond (switches.present m k) (count_ones (get_or tested.now k 0)) 0)) }
+{
+    let (eights, _) = tested.as_chunks::<8>();
+    let real = eight_tests(m, 0, &eights[0]) + eight_tests(m, 8, &eights[1]);
+    real + eight_tests(m, 16, &eights[2]) + eight_tests(m, 24, &eights[3])
+}
+
+// The counts that outputs read, by the number of their group, of which 0 is none: Group Positions, or in Independent Mode Machine Position for all.
+#[tactic(auto, unfolding(crate::specs::Reading::counts_read, rules::specs::Words::table, rules::specs::Switches::switch_position))]
+fn counts_read(w: Conditions, positions: &[GroupPosition; 6]) -> [u16; 7]
+    ensures { result ≡ counts_read w positions.now }
+{
+    if w.independent {
+        return [w.machine.0; 7];
+    }
+    let [p1, p2, p3, p4, p5, p6] = *positions;
+    [0, p1.0, p2.0, p3.0, p4.0, p5.0, p6.0]
+}
+
+// The position that an output's switch reads. A number over 6 is no group: it is as the module stores it, for C.
+#[tactic(auto, unfolding(crate::specs::Reading::position_read))]
+fn position_read(w: Conditions, counts: &[u16; 7], owner: u16) -> Position
+    ensures { result ≡ position_read w counts.now owner }
+{
+    let count = counts.get(owner as usize).copied().unwrap_or(counts[0]);
+    if w.independent {
+        Position::OfMachine(MachinePosition(count))
+    } else {
+        Position::OfGroup(GroupPosition(count))
+    }
+}
+
+// The group with the number `owner`, from 1, is open; 0 or over 6 is no group.
+fn group_open(isopen: &[bool; 6], owner: u16) -> bool
+    ensures { result ≡ groups.of_group false isopen.now owner }
+{
+    if owner == 0 {
+        return false;
+    }
+    isopen.get(owner as usize - 1).copied().unwrap_or(false)
+}
+
+// The motion detector that an output is ANDed with: bit 0 stands for neither. Tested one after the other they would be a jump for each output.
+#[tactic(auto, using(crate::proofs::OutputLaws::detector_bit))]
+fn detector_holds(w: Conditions, detector: u16) -> bool
+    ensures { result ≡ switches.detector_holds (anded_of detector) w }
+{
+    word::bit(1 + 2 * w.md1 as u16 + 4 * w.md2 as u16, detector)
+}
+
+// Output n, from 0, in a step: its program, the position that it reads and the number of its group. Under 16 it is real, as 01
+// numbers them and says each rule by the half. Openness is looked at only where the switch holds.
 #[derive(Clone, Copy)]
 struct Output<'a> {
-    pub present: bool,
     pub limit: &'a Limit,
-    pub position: GroupPosition,
-    pub isopen: bool,
+    pub position: Position,
+    pub isopen: &'a [bool; 6],
+    pub owner: u16,
     pub n: u16,
 }
 
@@ -116,12 +130,12 @@ impl Output<'_> {
     // The group lets the output on; in Independent Mode a real output's own real input does.
     #[tactic(auto, unfolding(rules::specs::Switches::admitted))]
     fn admitted(&self, w: Conditions) -> bool
-        ensures { result ≡ switches.admitted w self.now.isopen self.now.n }
+        ensures { result ≡ switches.admitted w (groups.of_group false self.now.isopen.now self.now.owner) self.now.n }
     {
         if w.independent {
             16 <= self.n || word::bit(w.real, self.n)
         } else {
-            self.isopen
+            group_open(self.isopen, self.owner)
         }
     }
 
@@ -137,33 +151,36 @@ impl Output<'_> {
     // The group is open, and what is ANDed holds.
     #[tactic(auto, unfolding(rules::specs::Switches::passes))]
     fn passes(&self, w: Conditions) -> bool
-        ensures { result ≡ switches.passes w self.now.limit.now self.now.isopen self.now.n }
+        ensures { result ≡ switches.passes w self.now.limit.now (groups.of_group false self.now.isopen.now self.now.owner) self.now.n }
     {
-        self.admitted(w) && self.enabled(w) && detector_holds(w, Anded::from(self.limit.detector))
+        self.admitted(w) && self.enabled(w) && detector_holds(w, self.limit.detector)
     }
 
-    // The output before the forces, and its pair tests: whatever else lets it on, its pairs are tested, that of a timed switch once for its state and for the
-    // output.
-    #[tactic(auto, using(crate::proofs::OutputLaws::timed_on, crate::proofs::OutputLaws::timed_tested, crate::proofs::OutputLaws::untimed_on, crate::proofs::OutputLaws::untimed_rests), unfolding(rules::specs::Switches::output_tests))]
-    fn after(&self, w: Conditions, x: TimedState) -> OutputAfter
-        ensures { (result.on ≡ switches.output_rule w self.now.limit.now self.now.position self.now.isopen (ltb 0 (card.timed_now w self.now.limit.now self.now.position x).left) self.now.n) × (result.timed ≡ card.timed_now w self.now.limit.now self.now.position x) × (result.tests ≡ cond self.now.present (switches.output_tests w self.now.limit.now self.now.position) 0) }
+    // The output before the forces, its switch being of that type, and its pair tests: whatever else lets it on, its pairs are tested, that of a timed switch
+    // once for its state and for the output.
+    #[tactic(auto, using(crate::proofs::OutputLaws::timed_on, crate::proofs::OutputLaws::timed_tested, crate::proofs::OutputLaws::untimed_on, crate::proofs::OutputLaws::untimed_rests))]
+    fn after(&self, s: Switch, w: Conditions, x: TimedState) -> OutputAfter
+        ensures { (result.on ≡ rule_reading w self.now.limit.now s self.now.position (groups.of_group false self.now.isopen.now self.now.owner) (ltb 0 (timed_reading w self.now.limit.now s self.now.position x).left) self.now.n) × (result.timed ≡ timed_reading w self.now.limit.now s self.now.position x) × (count_ones result.tested ≡ tests_reading w self.now.limit.now s self.now.position) }
     {
-        let tested = moment(w, self.position).switch_tested(self.limit);
-        let tests = counted(self.present, tested.tests);
-        let s = Switch::from(self.limit.action);
+        let moment = Moment {
+            sf: ScaleFactor::from(w),
+            c: w.c,
+            position: self.position,
+        };
+        let Tested { holds, tested } = moment.switch_tested(s, self.limit);
         match s {
             Switch::Timed(_) => {
-                let timed = switch::timed_after(s, tested.holds, x);
+                let timed = switch::timed_after(s, holds, x);
                 OutputAfter {
                     on: 0 < timed.left && self.passes(w),
                     timed,
-                    tests,
+                    tested,
                 }
             }
             Switch::Unprogrammed | Switch::Normal | Switch::Pulse(_, _) => OutputAfter {
-                on: tested.holds && self.passes(w),
+                on: holds && self.passes(w),
                 timed: TimedState::FRESH,
-                tests,
+                tested,
             },
         }
     }
@@ -173,36 +190,39 @@ impl Output<'_> {
 // arrays, as the module's C layout has them.
 pub fn outputs_after(
     m: Model,
-    p: Programming,
+    p: &Programming,
     w: Conditions,
-    positions: [GroupPosition; 6],
+    positions: &[GroupPosition; 6],
     isopen: [bool; 6],
-    xs: [TimedState; 32],
+    timed: &mut [TimedState; 32],
 ) -> OutputsAfter
-    ensures { (result.on ≡ words.packed 32 0 (switches.rule_at p w positions isopen (λ k. ltb 0 (card.timed_of p w positions xs k).left))) × (result.timed ≡ words.table 32 0 (card.timed_of p w positions xs)) × (result.tests ≡ sum (words.table 32 0 (switches.tests_at m p w positions))) }
+    ensures { (result.on ≡ words.packed 32 0 (switches.rule_at p.now w positions.now isopen (λ k. ltb 0 (card.timed_of p.now w positions.now timed.old k).left))) × (timed.new ≡ words.table 32 0 (card.timed_of p.now w positions.now timed.old)) × (result.tests ≡ sum (words.table 32 0 (switches.tests_at m p.now w positions.now))) }
 {
+    let counts = counts_read(w, positions);
     let mut on = 0;
-    let mut tests = 0;
-    let mut timed = xs;
+    let mut tested = [0; 32];
     for n in (0..32).rev() {
-        let owner = p.owners[n];
         let limit = &p.limits[n];
         let a = match Switch::from(limit.action) {
             Switch::Unprogrammed => OutputAfter::OFF,
-            _ => {
+            s => {
+                let owner = p.owners[n];
                 let output = Output {
-                    present: present(m, n as u16),
                     limit,
-                    position: of_group(GroupPosition(0), &positions, owner),
-                    isopen: of_group(false, &isopen, owner),
+                    position: position_read(w, &counts, owner),
+                    isopen: &isopen,
+                    owner,
                     n: n as u16,
                 };
-                output.after(w, xs[n])
+                output.after(s, w, timed[n])
             }
         };
         timed[n] = a.timed;
+        tested[n] = a.tested;
         on = on * 2 + a.on as u32;
-        tests += a.tests;
     }
-    OutputsAfter { on, timed, tests }
+    OutputsAfter {
+        on,
+        tests: pair_tests(m, &tested),
+    }
 }

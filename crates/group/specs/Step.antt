@@ -1,39 +1,101 @@
 -- What the parts of a group's step give; rules' definitions say the whole.
 -- Assumes nothing.
-use Rattle.std.specs.Prelude.{ℕ, Bool, false, cond, not, ◌&&◌, ◌||◌}
+use Rattle.std.specs.Prelude.{ℕ, Bool, true, false, cond, not, ◌&&◌, ◌||◌}
 use Rattle.rules.specs.declared.Group.{Group}
+use Rattle.rules.specs.declared.Pair.{Pair}
 use Rattle.rules.specs.declared.GroupState.{GroupState}
 use Rattle.rules.specs.declared.Event.{Event}
 use Rattle.rules.specs.declared.MachinePosition.{MachinePosition}
-use Rattle.rules.specs.declared.GroupPosition.{GroupPosition}
-use Rattle.rules.specs.declared.Mode.{Mode}
-use Rattle.rules.specs.declared.Mode.TheVariants.{NoMode, Mode0, Mode1, Mode2, Mode3, Mode4, Mode5}
-use Rattle.rules.specs.Groups.{dwell_holds, group_position, presets, edge, stops}
+use Rattle.rules.specs.Groups.{dwell_holds, group_position, preset_shift, edge, stops, running}
 use Rattle.group.specs.declared.Place.{Place}
-use Rattle.group.specs.declared.Turn.{Turn}
 
--- a group's position and its place in a mode, where the shift is `shift`
-abbrev pub position_with : ℕ → Group → Mode → ℕ → MachinePosition → GroupPosition
-position_with sf g mode shift m = group_position sf (cond (presets mode) shift g.offset) m
+-- where a group with the dwell d is, by its offset or shift
+unfoldable pub place_at : ℕ → Pair → ℕ → MachinePosition → Place
+place_at sf d by m = record { position = group_position sf by m; holds = dwell_holds sf d (group_position sf by m) }
 
-unfoldable pub place_at : ℕ → Group → Mode → ℕ → MachinePosition → Place
-place_at sf g mode shift m =
-    record { shift = shift; position = position_with sf g mode shift m; holds = dwell_holds sf g.dwell (position_with sf g mode shift m) }
+-- a state after the beginning of a dwell, if it begins
+abbrev pub begun : Bool → GroupState → GroupState
+begun begins x = record {
+  level = x.level;
+  first = x.first;
+  held = x.held;
+  shift = x.shift;
+  taken = x.taken;
+  begun = begins || x.begun;
+  qualified = not begins && x.qualified;
+  opened = not begins && x.opened;
+}
 
--- openness by mode, where it is `two`, `four` and `five` in Modes 2, 4 and 5
-abbrev pub opened_in : Mode → Bool → Bool → Bool → Bool
-opened_in NoMode two four five = false
-opened_in Mode0 two four five = false
-opened_in Mode1 two four five = false
-opened_in Mode2 two four five = two
-opened_in Mode3 two four five = false
-opened_in Mode4 two four five = four
-opened_in Mode5 two four five = five
+-- a state with what a step keeps at its end, where the dwell holds then or not
+abbrev pub kept : Event → Bool → GroupState → GroupState
+kept e holds x = record {
+  level = e.level;
+  first = e.first;
+  held = holds;
+  shift = x.shift;
+  taken = x.taken;
+  begun = x.begun;
+  qualified = (holds && running e) || x.qualified;
+  opened = x.opened;
+}
 
--- openness by mode after a step in which the group met t
-unfoldable pub opened_after : Mode → GroupState → Event → Turn → Bool
-opened_after mode x e t =
-    opened_in mode
-    (t.taken || (not t.begins && x.opened))
-    ((t.holds && t.edge) || (not t.begins && x.opened))
-    ((edge x.first e.first && t.qualified) || (not (stops e) && (t.qualifying || (not t.begins && x.opened))))
+abbrev pub opened_as : Bool → GroupState → GroupState
+opened_as opened x = record {
+  level = x.level;
+  first = x.first;
+  held = x.held;
+  shift = x.shift;
+  taken = x.taken;
+  begun = x.begun;
+  qualified = x.qualified;
+  opened = opened;
+}
+
+-- a state after a step at the place p, before openness is told by mode
+abbrev pub dwelt : Event → Place → GroupState → GroupState
+dwelt e p x = kept e p.holds (begun (p.holds && not x.held) x)
+
+-- the place of Modes 0, 3, 4 and 5
+abbrev pub offset_place : ℕ → Group → Event → Place
+offset_place sf g e = place_at sf g.dwell g.offset e.machine
+
+abbrev pub opened_4 : Bool → GroupState → GroupState
+opened_4 edge x = opened_as ((x.held && edge) || x.opened) x
+
+abbrev pub opened_5 : Event → Bool → GroupState → GroupState
+opened_5 e edge x = opened_as ((edge && x.qualified) || (not (stops e) && ((x.held && running e) || x.opened))) x
+
+-- Modes 1 and 2: an edge is taken, where the beginning of a dwell is in the state already
+abbrev pub takes : Event → GroupState → Bool
+takes e x = edge x.level e.level && (not x.taken || x.begun)
+
+abbrev pub preset_by : ℕ → GroupState → GroupState
+preset_by shift x = record {
+  level = x.level;
+  first = x.first;
+  held = x.held;
+  shift = shift;
+  taken = true;
+  begun = false;
+  qualified = x.qualified;
+  opened = true;
+}
+
+-- the place of Modes 1 and 2 before an edge is taken, what a dwell's beginning there makes of the state, and the place at the step's end
+abbrev pub shift_place : ℕ → Group → ℕ → Event → Place
+shift_place sf g shift e = place_at sf g.dwell shift e.machine
+
+unfoldable pub entered : ℕ → Group → GroupState → Event → GroupState
+entered sf g x e = begun ((shift_place sf g x.shift e).holds && not x.held) x
+
+unfoldable pub end_place : ℕ → Group → GroupState → Event → Place
+end_place sf g x e =
+    cond (takes e (entered sf g x e)) (shift_place sf g (preset_shift sf g.offset e.machine) e) (shift_place sf g x.shift e)
+
+-- the state of Modes 1 and 2 after a step, before openness is told by mode
+unfoldable pub shifted : ℕ → Group → GroupState → Event → GroupState
+shifted sf g x e =
+    kept
+    e
+    (end_place sf g x e).holds
+    (cond (takes e (entered sf g x e)) (preset_by (preset_shift sf g.offset e.machine) (entered sf g x e)) (entered sf g x e))

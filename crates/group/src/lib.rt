@@ -1,8 +1,9 @@
 // One group's step in its six modes.
 #![tactic(auto)]
 
-ghost use Rattle.std.specs.Prelude.{◌≡◌, cond, not, ◌&&◌, ◌||◌, ◌+◌};
+ghost use Rattle.std.specs.Prelude.{◌≡◌, true, false, cond, not, ◌&&◌, ◌||◌, ◌+◌};
 ghost use Rattle.rules.specs.Groups as groups;
+ghost use Rattle.rules.specs.Variants.{group_mode};
 ghost use Rattle.rules.specs.Card as card;
 ghost use Rattle.counts.specs.Factor.{factor};
 ghost use Rattle.group.specs.Step as steps;
@@ -10,40 +11,18 @@ ghost use Rattle.group.specs.Step as steps;
 use counts::ScaleFactor;
 use rules::{Event, Group, GroupPosition, GroupState, MachinePosition, Mode, Pair};
 
-// What a group's places in a step are worked out from.
-#[derive(Clone, Copy)]
-struct Standing {
-    pub sf: ScaleFactor,
-    pub group: Group,
-    pub mode: Mode,
-    pub machine: MachinePosition,
-}
-
-// A group under a shift: its position, and whether its dwell holds there.
+// A group's position, and whether its dwell holds there.
 #[derive(Clone, Copy)]
 struct Place {
-    pub shift: u16,
     pub position: GroupPosition,
     pub holds: bool,
 }
 
-// What a group meets in a step, worked out: its dwell begins, its input has an edge, the edge is taken, the dwell holds at the step's end, the step is a
-// qualifying one, and one came since the dwell began. The group's state and the event stay arguments beside it: three functions take them, no two alike.
+// What a step of a group leaves beside its state: the Group Position, and whether the group is open.
 #[derive(Clone, Copy)]
-struct Turn {
-    pub begins: bool,
-    pub edge: bool,
-    pub taken: bool,
-    pub holds: bool,
-    pub qualifying: bool,
-    pub qualified: bool,
-}
-
-// A group after a step, and the Group Position that the step leaves.
-#[derive(Clone, Copy)]
-pub struct GroupStep {
-    pub state: GroupState,
+pub struct GroupLeft {
     pub position: GroupPosition,
+    pub isopen: bool,
 }
 
 // From Machine Position to Group Position, by the group's offset or by the shift.
@@ -70,14 +49,6 @@ pub fn dwell_holds(sf: ScaleFactor, d: Pair, p: GroupPosition) -> bool
     sf.holds(d, p.0)
 }
 
-// Modes 1 and 2: Machine Position plus a shift, which a taken edge presets.
-#[tactic(auto, unfolding(rules::specs::Groups::presets))]
-fn presets(mode: Mode) -> bool
-    ensures { result ≡ groups.presets mode }
-{
-    matches!(mode, Mode::Mode1 | Mode::Mode2)
-}
-
 // An edge is inactive to active.
 fn edge(before: bool, now: bool) -> bool
     ensures { result ≡ groups.edge before now }
@@ -101,150 +72,151 @@ fn running(e: Event) -> bool
     e.level & (e.rpm != 0)
 }
 
-// What is added to Machine Position: the shift in Modes 1 and 2, else the offset.
-fn added(mode: Mode, shift: u16, offset: u16) -> u16
-    ensures { result ≡ cond (groups.presets mode) shift offset }
+// Where a group with this dwell is, the Machine Position taken on by the offset or the shift.
+#[tactic(auto, unfolding(crate::specs::Step::place_at))]
+fn place_at(sf: ScaleFactor, dwell: Pair, by: u16, m: MachinePosition) -> Place
+    ensures { result ≡ steps.place_at (factor sf) dwell by m }
 {
-    if presets(mode) {
-        return shift;
-    }
-    offset
-}
-
-impl Standing {
-    // Group Position where the shift is `shift`.
-    fn position(self, shift: u16) -> GroupPosition
-        ensures { result ≡ steps.position_with (factor self.sf) self.group self.mode shift self.machine }
-    {
-        group_position(
-            self.sf,
-            added(self.mode, shift, self.group.offset),
-            self.machine,
-        )
-    }
-
-    // The place where the shift is `shift`; the only test of the dwell.
-    #[tactic(auto, unfolding(crate::specs::Step::place_at))]
-    fn place(self, shift: u16) -> Place
-        ensures { result ≡ steps.place_at (factor self.sf) self.group self.mode shift self.machine }
-    {
-        let position = self.position(shift);
-        Place {
-            shift,
-            position,
-            holds: dwell_holds(self.sf, self.group.dwell, position),
-        }
-    }
-
-    // The place at the step's end: a taken edge sets the position to the preset, and the dwell is judged anew.
-    fn end(self, takes: bool, start: Place) -> Place
-        ensures { result ≡ cond takes (steps.place_at (factor self.sf) self.group self.mode (groups.preset_shift (factor self.sf) self.group.offset self.machine) self.machine) start }
-    {
-        if takes {
-            return self.place(preset_shift(self.sf, self.group.offset, self.machine));
-        }
-        start
+    let position = group_position(sf, by, m);
+    Place {
+        position,
+        holds: dwell_holds(sf, dwell, position),
     }
 }
 
-// An edge is taken if none was since group start, or a dwell has begun since the last taken one.
-fn takes(mode: Mode, x: GroupState, edge: bool, begins: bool) -> bool
-    ensures { result ≡ (groups.presets mode && edge && (not x.taken || begins || x.begun)) }
+// A dwell's beginning, which closes and forgets.
+fn begin(x: &mut GroupState, holds: bool)
+    ensures { x.new ≡ steps.begun (holds && not x.old.held) x.old }
 {
-    presets(mode) & edge & (!x.taken | begins | x.begun)
-}
-
-// What a dwell's beginning ends and `sets` brings about, the beginning first.
-fn since_dwell(sets: bool, begins: bool, before: bool) -> bool
-    ensures { result ≡ (sets || (not begins && before)) }
-{
-    sets | (!begins & before)
-}
-
-// Mode 5: a stop closes, then an edge of the First Cycle Input that counts opens. A rule of 01 by itself: only its form is that of `since_dwell`.
-fn stop_then_edge(opened: bool, stop: bool, counted: bool) -> bool
-    ensures { result ≡ (counted || (not stop && opened)) }
-{
-    counted | (!stop & opened)
-}
-
-// Openness of Modes 2, 4 and 5; the others keep none.
-fn opened_in(mode: Mode, two: bool, four: bool, five: bool) -> bool
-    ensures { result ≡ steps.opened_in mode two four five }
-{
-    match mode {
-        Mode::NoMode | Mode::Mode0 | Mode::Mode1 | Mode::Mode3 => false,
-        Mode::Mode2 => two,
-        Mode::Mode4 => four,
-        Mode::Mode5 => five,
+    if holds && !x.held {
+        x.begun = true;
+        x.qualified = false;
+        x.opened = false;
     }
 }
 
-// A group is open: always in Modes 0 and 1, while its input is active in Mode 3, by what came before in Modes 2, 4 and 5.
-#[tactic(auto, unfolding(rules::specs::Groups::is_open))]
-pub fn is_open(mode: Mode, level: bool, opened: bool) -> bool
-    ensures { result ≡ groups.is_open mode level opened }
+// What is kept of a step at its end; in the dwell a running one qualifies.
+fn keep(x: &mut GroupState, e: Event, holds: bool)
+    ensures { x.new ≡ steps.kept e holds x.old }
 {
-    match mode {
-        Mode::NoMode => false,
-        Mode::Mode0 | Mode::Mode1 => true,
-        Mode::Mode3 => level,
-        Mode::Mode2 | Mode::Mode4 | Mode::Mode5 => opened,
+    if holds && running(e) {
+        x.qualified = true;
+    }
+    x.level = e.level;
+    x.first = e.first;
+    x.held = holds;
+}
+
+// Modes 0, 3, 4 and 5: Machine Position plus the offset. Openness is left as a dwell's beginning leaves it.
+fn offset_step(sf: ScaleFactor, g: &Group, x: &mut GroupState, e: Event) -> GroupPosition
+    ensures { (x.new ≡ steps.dwelt e (steps.offset_place (factor sf) g.now e) x.old) × (result ≡ (steps.offset_place (factor sf) g.now e).position) }
+{
+    let p = place_at(sf, g.dwell, g.offset, e.machine);
+    begin(x, p.holds);
+    keep(x, e, p.holds);
+    p.position
+}
+
+// The place at the step's end: a taken edge sets the position to the preset, and the dwell is judged anew. An edge is taken if none was since group start, or a dwell has begun
+// since the last taken one.
+fn end_place(sf: ScaleFactor, g: &Group, x: &mut GroupState, e: Event, start: Place) -> Place
+    ensures { (x.new ≡ cond (steps.takes e x.old) (steps.preset_by (groups.preset_shift (factor sf) g.now.offset e.machine) x.old) x.old) × (result ≡ cond (steps.takes e x.old) (steps.place_at (factor sf) g.now.dwell (groups.preset_shift (factor sf) g.now.offset e.machine) e.machine) start) }
+{
+    if edge(x.level, e.level) && (!x.taken || x.begun) {
+        x.shift = preset_shift(sf, g.offset, e.machine);
+        x.taken = true;
+        x.begun = false;
+        x.opened = true;
+        return place_at(sf, g.dwell, x.shift, e.machine);
+    }
+    start
+}
+
+// Modes 1 and 2: Machine Position plus a shift, which a taken edge presets. A dwell's beginning closes, then a taken edge opens. In line, since a call would store the whole event.
+#[tactic(auto, unfolding(crate::specs::Step::shifted, crate::specs::Step::entered, crate::specs::Step::end_place))]
+#[inline(always)]
+fn shift_step(sf: ScaleFactor, g: &Group, x: &mut GroupState, e: Event) -> GroupPosition
+    ensures { (x.new ≡ steps.shifted (factor sf) g.now x.old e) × (result ≡ (steps.end_place (factor sf) g.now x.old e).position) }
+{
+    let start = place_at(sf, g.dwell, x.shift, e.machine);
+    begin(x, start.holds);
+    let end = end_place(sf, g, x, e, start);
+    keep(x, e, end.holds);
+    end.position
+}
+
+// Modes 0 and 3, and no mode, keep no openness: such a group is open as the step finds it.
+fn plain_step(sf: ScaleFactor, g: &Group, x: &mut GroupState, e: Event, isopen: bool) -> GroupLeft
+    ensures { (x.new ≡ steps.opened_as false (steps.dwelt e (steps.offset_place (factor sf) g.now e) x.old)) × (result.position ≡ (steps.offset_place (factor sf) g.now e).position) × (result.isopen ≡ isopen) }
+{
+    let position = offset_step(sf, g, x, e);
+    x.opened = false;
+    GroupLeft { position, isopen }
+}
+
+// Mode 1 is always open, and keeps no openness.
+fn step_1(sf: ScaleFactor, g: &Group, x: &mut GroupState, e: Event) -> GroupLeft
+    ensures { (x.new ≡ steps.opened_as false (steps.shifted (factor sf) g.now x.old e)) × (result.position ≡ (steps.end_place (factor sf) g.now x.old e).position) × (result.isopen ≡ true) }
+{
+    let position = shift_step(sf, g, x, e);
+    x.opened = false;
+    GroupLeft {
+        position,
+        isopen: true,
     }
 }
 
-// Openness of Modes 2, 4 and 5 after a step: worked out for all three, as the definition has them side by side, and then chosen by the mode.
-#[tactic(auto, unfolding(crate::specs::Step::opened_after))]
-fn opened_after(mode: Mode, x: GroupState, e: Event, t: Turn) -> bool
-    ensures { result ≡ steps.opened_after mode x e t }
+// Mode 2: opened by a taken edge, closed by a dwell's beginning.
+fn step_2(sf: ScaleFactor, g: &Group, x: &mut GroupState, e: Event) -> GroupLeft
+    ensures { (x.new ≡ steps.shifted (factor sf) g.now x.old e) × (result.position ≡ (steps.end_place (factor sf) g.now x.old e).position) × (result.isopen ≡ (steps.shifted (factor sf) g.now x.old e).opened) }
 {
-    let two = since_dwell(t.taken, t.begins, x.opened);
-    let four = since_dwell(t.holds & t.edge, t.begins, x.opened);
-    let stop = stops(e);
-    let counted = edge(x.first, e.first) & t.qualified;
-    let five = stop_then_edge(since_dwell(t.qualifying, t.begins, x.opened), stop, counted);
-    opened_in(mode, two, four, five)
+    let position = shift_step(sf, g, x, e);
+    GroupLeft {
+        position,
+        isopen: x.opened,
+    }
 }
 
-// A group's step.
-#[tactic(auto, unfolding(crate::specs::Step::place_at, rules::specs::Card::begins_now, rules::specs::Card::position_by, rules::specs::Card::takes_now, rules::specs::Card::shift_now, rules::specs::Card::held_now, rules::specs::Card::position_now, rules::specs::Card::qualified_now, rules::specs::Card::opened_now, crate::specs::Step::opened_after, rules::specs::Card::group_after))]
-pub fn group_step(sf: ScaleFactor, g: Group, x: GroupState, e: Event) -> GroupStep
-    ensures { (result.state ≡ card.group_after (factor sf) g x e) × (result.position ≡ card.position_now (factor sf) g x e) }
+// Mode 4: a dwell's beginning closes, then an edge in the dwell opens.
+fn step_4(sf: ScaleFactor, g: &Group, x: &mut GroupState, e: Event) -> GroupLeft
+    ensures { (x.new ≡ steps.opened_4 (groups.edge x.old.level e.level) (steps.dwelt e (steps.offset_place (factor sf) g.now e) x.old)) × (result.position ≡ (steps.offset_place (factor sf) g.now e).position) × (result.isopen ≡ x.new.opened) }
 {
-    let mode = Mode::from(g.mode);
     let edge = edge(x.level, e.level);
-    let standing = Standing {
-        sf,
-        group: g,
-        mode,
-        machine: e.machine,
-    };
-    let before = standing.place(x.shift);
-    let begins = before.holds & !x.held;
-    let taken = takes(mode, x, edge, begins);
-    let end = standing.end(taken, before);
-    let qualifying = end.holds & running(e);
-    let qualified = since_dwell(qualifying, begins, x.qualified);
-    let turn = Turn {
-        begins,
-        edge,
-        taken,
-        holds: end.holds,
-        qualifying,
-        qualified,
-    };
-    let state = GroupState {
-        level: e.level,
-        first: e.first,
-        held: end.holds,
-        shift: end.shift,
-        taken: taken | x.taken,
-        begun: !taken & (begins | x.begun),
-        qualified,
-        opened: opened_after(mode, x, e, turn),
-    };
-    GroupStep {
-        state,
-        position: end.position,
+    let position = offset_step(sf, g, x, e);
+    x.opened = x.held & edge | x.opened;
+    GroupLeft {
+        position,
+        isopen: x.opened,
+    }
+}
+
+// Mode 5: a dwell's beginning closes, a qualifying step opens, a stop closes, then an edge of the First Cycle Input opens if a qualifying step came since the dwell began.
+fn step_5(sf: ScaleFactor, g: &Group, x: &mut GroupState, e: Event) -> GroupLeft
+    ensures { (x.new ≡ steps.opened_5 e (groups.edge x.old.first e.first) (steps.dwelt e (steps.offset_place (factor sf) g.now e) x.old)) × (result.position ≡ (steps.offset_place (factor sf) g.now e).position) × (result.isopen ≡ x.new.opened) }
+{
+    let edge = edge(x.first, e.first);
+    let position = offset_step(sf, g, x, e);
+    let qualifying = x.held & running(e);
+    let counted = edge & x.qualified;
+    x.opened = counted | !stops(e) & (qualifying | x.opened);
+    GroupLeft {
+        position,
+        isopen: x.opened,
+    }
+}
+
+// A group's step, on its state where it stands: each mode stores what it changes, and works out its own openness alone.
+#[tactic(auto, unfolding(rules::specs::Groups::is_open, rules::specs::Groups::presets, crate::specs::Step::place_at, crate::specs::Step::entered, crate::specs::Step::end_place, crate::specs::Step::shifted, rules::specs::Card::begins_now, rules::specs::Card::position_by, rules::specs::Card::takes_now, rules::specs::Card::shift_now, rules::specs::Card::held_now, rules::specs::Card::position_now, rules::specs::Card::qualified_now, rules::specs::Card::opened_now, rules::specs::Card::group_after))]
+pub fn step(sf: ScaleFactor, g: &Group, x: &mut GroupState, e: Event) -> GroupLeft
+    ensures { (x.new ≡ card.group_after (factor sf) g.now x.old e) × (result.position ≡ card.position_now (factor sf) g.now x.old e) × (result.isopen ≡ groups.is_open (group_mode g.now) e.level (card.group_after (factor sf) g.now x.old e).opened) }
+{
+    match Mode::from(g.mode) {
+        Mode::NoMode => plain_step(sf, g, x, e, false),
+        Mode::Mode0 => plain_step(sf, g, x, e, true),
+        Mode::Mode1 => step_1(sf, g, x, e),
+        Mode::Mode2 => step_2(sf, g, x, e),
+        Mode::Mode3 => plain_step(sf, g, x, e, e.level),
+        Mode::Mode4 => step_4(sf, g, x, e),
+        Mode::Mode5 => step_5(sf, g, x, e),
     }
 }

@@ -1,21 +1,22 @@
 -- The advance in signs and magnitudes: 01's s is a quotient of magnitudes; one number for either sign; a count taken back by a displacement.
 -- Assumes nothing.
-use Prim.Native.Nat.{ℕ, zero, suc, ◌+◌, ◌-◌, ◌*◌, ◌/◌, ◌%◌, ◌≤◌}
+use Prim.Native.Nat.{ℕ, zero, suc, min, ◌+◌, ◌-◌, ◌*◌, ◌/◌, ◌%◌, ◌≤◌, ◌<◌}
 use mathlib.Core.Bool.{Bool, true, false, cond, xor}
 use mathlib.Core.Path.{◌≡◌, refl, sym, ap, ◌∙◌}
-use native.Mathlib.Nat.{zero-div, mul-zero, zero-mul, mul-le-mul, mod-mod, add-mod-mod}
+use native.Mathlib.Nat.{zero-div, mul-zero, zero-mul, mul_assoc, mul-le-mul, mod-mod, add-mod-mod, mod-eq_of_lt}
 use native.Mathlib.Omega.{arith}
-use borrow.Author.Tests.{lt-ltb, le-ltb}
+use borrow.Author.Tests.{ltb-true, ltb-false, lt-ltb, le-ltb}
 use lib.Dec.{ltb}
 use lib.IntN.{ℤ, pos, negsuc, neg_ℤ, nat_abs, sub_ℕ, ◌+ℤ◌, ◌-ℤ◌, ◌*ℤ◌, +ℤ_assoc, +ℤ_comm, +ℤ_idl, +ℤ_invl, neg_ℤ-+ℤ, neg_ℤ-neg_ℤ}
 use lib.Signed.{quot_z}
 use Rattle.std.proofs.lemmas.Nat.{mod_below}
+use Rattle.rules.specs.Words.{modulo}
 use Rattle.rules.specs.Motion.{c_value}
 use Rattle.rules.specs.Counts.{ahead}
 use Rattle.rules.specs.Switches.{signed, advance_shift}
 use Rattle.rules.proofs.Laws.{minus, ahead_below}
 use Rattle.rules.proofs.Congruence.{congruent, modulo_only, ahead_gives, summed}
-use Rattle.switch.specs.Parts.{shift_bias, shift_counts, taken_back}
+use Rattle.switch.specs.Parts.{shift_bias, shift_counts, taken_back, spread_of}
 
 -- 0 has one sign
 no_sign : (n : ℕ) → n ≡ 0 → neg_ℤ (pos n) ≡ pos n
@@ -44,12 +45,13 @@ unsigned true = refl
 unsigned false = refl
 
 -- s: the sign of the product, and its magnitude divided toward zero
-pub shift_signed : (sf : ℕ) (x y : Bool) (a c : ℕ) → advance_shift sf (signed x a) (signed y c) ≡ signed (xor x y) (a * c * sf / 245760)
+pub shift_signed : (sf : ℕ) (x y : Bool) (a c : ℕ) → advance_shift sf (signed x a) (signed y c) ≡ signed (xor x y) (a * (c * sf) / 245760)
 unfolding advance_shift
 shift_signed sf x y a c =
     ap (λ (z : ℤ). quot_z (z *ℤ pos sf) (pos 245760)) (product x y a c)
     ∙ ap (λ (z : ℤ). quot_z z (pos 245760)) (product (xor x y) false (a * c) sf ∙ ap (λ (b : Bool). signed b (a * c * sf)) (unsigned (xor x y)))
     ∙ quotient (xor x y) (a * c * sf) 245760
+    ∙ ap (λ (n : ℕ). signed (xor x y) (n / 245760)) (mul_assoc a c sf)
 
 -- c, as a number n holds it, in sign and magnitude: n is below what was added, and how far it is from that
 abbrev pub back : ℕ → Bool
@@ -70,18 +72,6 @@ pub shift_of : (t : ℕ) (x : Bool) (a n : ℕ) → advance_shift (t + 1) (signe
 unfolding shift_counts
 shift_of t x a n = ap (advance_shift (t + 1) (signed x a)) (in_signs n) ∙ shift_signed (t + 1) x (back n) a (magnitude n)
 
--- without advance there is none
-pub no_shift : (t : ℕ) (x : Bool) (a n : ℕ) → a ≡ 0 → advance_shift (t + 1) (signed x a) (c_value n) ≡ pos 0
-unfolding shift_counts
-no_shift t x a n e =
-    shift_of t x a n
-    ∙ (let z : a * magnitude n * (t + 1) / 245760 ≡ 0 = rw (e, zero-mul (magnitude n), zero-mul (t + 1)) (zero-div 245760) in
-    rw z (nought (xor x (back n))))
-  where
-    nought : (b : Bool) → signed b 0 ≡ pos 0
-    nought true = refl
-    nought false = refl
-
 -- s with its bias, for either sign
 pub biased_up : (b n : ℕ) → sub_ℕ (b + n) b ≡ pos n
 biased_up b n = rw (le-ltb (b + n) b (omega arith)) (ap pos (omega arith))
@@ -94,8 +84,8 @@ biased_down b (suc n) h = rw (lt-ltb (b - suc n) b (omega arith)) (ap negsuc (om
 pub shift_fits : (sf a n : ℕ) → a ≤ 65535 → n ≤ 4294967295 → sf ≤ 65536 → shift_counts sf a n ≤ shift_bias
 unfolding shift_counts
 shift_fits sf a n ha hn hs =
-    let p : a * n ≤ 65535 * 4294967295 = mul-le-mul {n₂ = 65535} {m₂ = 4294967295} ha hn in
-    let q : a * n * sf ≤ 65535 * 4294967295 * 65536 = mul-le-mul {n₂ = 65535 * 4294967295} {m₂ = 65536} p hs in
+    let p : n * sf ≤ 4294967295 * 65536 = mul-le-mul {n₂ = 4294967295} {m₂ = 65536} hn hs in
+    let q : a * (n * sf) ≤ 65535 * (4294967295 * 65536) = mul-le-mul {n₂ = 65535} {m₂ = 4294967295 * 65536} ha p in
     omega arith
 
 -- a difference of two shifts with one bias is the difference of the shifts
@@ -131,3 +121,21 @@ back_up t s b m p r e h =
     rw (shifted p s b)
     (modulo_only t (p + s) b r (rw h (mod_below (p + m % (t + 1)) (t + 1) (omega arith)))
     (congruent t r (p + m) b (r + b) (p + s) (rw (h, mod-mod (p + m % (t + 1)) (t + 1)) (add-mod-mod p m (t + 1))) refl (omega arith)))
+
+-- by no more than leaves it in the turn
+pub back_within : (t s b p r : ℕ) → p + s ≡ b + r → r < t + 1 → r ≡ taken_back (t + 1) (sub_ℕ s b) p
+unfolding taken_back modulo
+back_within t s b p r e h = sym (rw (shifted p s b, e, biased_up b r) (mod-eq_of_lt h))
+
+-- the spread, from a sum that is not below 0
+pub spread_within : (sf a b : ℕ) → min (a + sf - b) (2 * sf) ≡ spread_of sf (sub_ℕ a b)
+unfolding spread_of
+spread_within sf a b = go (ltb a b) refl
+  where
+    go : (x : Bool) → ltb a b ≡ x → min (a + sf - b) (2 * sf) ≡ spread_of sf (cond x (negsuc (b - suc a)) (pos (a - b)))
+    go true e = let h = ltb-true a b e in omega arith
+    go false e = over (ltb-false a b e) (ltb sf (a - b)) refl
+      where
+        over : b ≤ a → (y : Bool) → ltb sf (a - b) ≡ y → min (a + sf - b) (2 * sf) ≡ cond y (sf + sf) (sf + (a - b))
+        over h true d = let l = ltb-true sf (a - b) d in omega arith
+        over h false d = let l = ltb-false sf (a - b) d in omega arith

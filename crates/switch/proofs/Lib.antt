@@ -1,3 +1,4 @@
 pub mod Advance
 pub mod Pairs
 pub mod Pulses
+pub mod SideBySide

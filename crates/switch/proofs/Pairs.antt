@@ -30,7 +30,7 @@ up_to_same zero i f ends stops h = refl
 up_to_same (suc n) i f ends stops h = rw (h i, up_to_same n (i + 1) f ends stops h)
 
 -- two tests that say the same
-agree : (a b c d : ℕ) → (a < b → c < d) → (b ≤ a → d ≤ c) → ltb a b ≡ ltb c d
+pub agree : (a b c d : ℕ) → (a < b → c < d) → (b ≤ a → d ≤ c) → ltb a b ≡ ltb c d
 agree a b c d f g = go (ltb a b) refl
   where
     go : (x : Bool) → ltb a b ≡ x → x ≡ ltb c d

@@ -1,13 +1,13 @@
 -- The parts in which the code reckons what 01 says of a limit switch; proofs/ shows each to be the rule.
 -- Assumes nothing.
-use Rattle.std.specs.Prelude.{ℕ, suc, ◌+◌, ◌-◌, ◌*◌, ◌/◌, min, Bool, cond, ◌&&◌, List, get_or, ltb, ℤ, pos, negsuc, ◌+ℤ◌}
+use Rattle.std.specs.Prelude.{ℕ, suc, ◌+◌, ◌-◌, ◌*◌, ◌/◌, min, Bool, ◌%◌, cond, ◌&&◌, List, get_or, ltb, leb, ℤ, pos, negsuc, ◌+ℤ◌}
 use Rattle.rules.specs.Words.{modulo, some_of, count_up_to}
 use Rattle.rules.specs.Counts.{ahead, used_pair}
 use Rattle.rules.specs.Switches.{timed_steps}
 
 -- |s| of an advance of `tenths` at `counts` in 120 steps
 unfoldable pub shift_counts : ℕ → ℕ → ℕ → ℕ
-shift_counts sf tenths counts = tenths * counts * sf / 245760
+shift_counts sf tenths counts = tenths * (counts * sf) / 245760
 
 -- what is added to s where one number stands for either sign
 abbrev pub shift_bias : ℕ
@@ -47,3 +47,14 @@ last_pulse r q k at = min (q - 1) (((at + 1) * (q - 1) - 1) / (r - k))
 -- for how many steps a timed switch is on, this one included: T ms from where its pair began to hold
 unfoldable pub timed_left : ℕ → Bool → Bool → ℕ → ℕ
 timed_left t held before left = cond held (cond before (left - 1) (timed_steps t)) 0
+
+-- the same in sixteen bits, of a pair that is used: sums and differences mod 2^16
+abbrev pub less : ℕ → ℕ → ℕ
+less a b = (a + (65536 - b)) % 65536
+
+unfoldable pub lane_holds : ℕ → ℕ → ℕ → ℕ → ℕ → Bool
+lane_holds top from spread on off =
+    let sf = (top + 1) % 65536 in
+    let at = (less from on + cond (leb on from) 0 sf) % 65536 in
+    let length = (less off on + cond (leb on off) 0 sf) % 65536 in
+    ltb (less ((at + sf) % 65536) length) spread

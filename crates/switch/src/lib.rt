@@ -1,31 +1,37 @@
 // Limit switches: a pair at a position, advances, normal, pulse and timed switches.
 #![tactic(auto)]
 
-ghost use Rattle.std.specs.Prelude.{true, ◌≡◌, ◌+◌, ◌*◌, ◌%◌, ◌≤◌, nat_abs, get_or, ◌-ℤ◌};
+ghost use Rattle.std.specs.Prelude.{true, min, ◌-◌, ◌≡◌, ◌+◌, ◌*◌, ◌%◌, ◌≤◌, nat_abs, get_or, ◌-ℤ◌};
+ghost use Rattle.std.specs.Int.RustNames.{count_ones};
 ghost use Rattle.std.proofs.Math.IntN.{sub_ℕ};
 ghost use Rattle.rules.specs.Words.{digit};
 ghost use Rattle.rules.specs.Counts.{ahead};
 ghost use Rattle.rules.specs.declared.Switch.TheVariants.{Normal};
-ghost use Rattle.rules.specs.Variants.{limit_switch};
 ghost use Rattle.rules.specs.Motion.{c_value};
 ghost use Rattle.rules.specs.Switches.{advance_value, advance_shift, count_at, pair_used, on_shift, off_shift, pair_holds, normal_holds, pulse_start, pulse_on, pulse_holds, switch_holds, switch_tests};
 ghost use Rattle.rules.specs.Card.{timed_after};
 ghost use Rattle.counts.specs.Factor.{factor};
 ghost use Rattle.switch.specs.Parts.{shift_bias, shift_counts, taken_back, spread_of, pair_at, some_pair, pairs_tested, last_pulse, timed_left};
 
+mod lanes;
+
+use crate::lanes::{Sides, holding, in_range, sides_of, up_to_lowest, used};
 use counts::{ScaleFactor, used_pair};
 use rules::{Advance, Limit, Pair, Position, Speed, Switch, TimedState};
 
 // What is added to a shift s, so that one number stands for either sign: 2^47, more than any s.
 const SHIFT_BIAS: u64 = 140737488355328;
 
-// The magnitude of s: advance × c × SF / 245760. The whole product fits in 64 bits.
+// Lanes of 16 bits are wide enough for a turn whose top count is below this.
+const LANE_TOP: u16 = 32767;
+
+// The magnitude of s: advance × c × SF / 245760. The whole product fits in 64 bits; c × SF is the same for all outputs of a step.
 #[tactic(auto, using(crate::proofs::Advance::shift_fits), unfolding(crate::specs::Parts::shift_counts))]
 fn shift_counts(sf: ScaleFactor, tenths: u16, counts: u32) -> u64
     ensures magnitude { result ≡ shift_counts (factor sf) tenths counts }
     ensures fits { result ≤ shift_bias }
 {
-    tenths as u64 * counts as u64 * sf.whole() as u64 / 245760
+    tenths as u64 * (counts as u64 * sf.whole() as u64) / 245760
 }
 
 // How much of c there is, in either direction.
@@ -38,11 +44,9 @@ fn magnitude(c: u32) -> u32
 
 // s of an advance at c, before reduction mod SF, with its bias. Like signs make s positive.
 fn shift(sf: ScaleFactor, a: Advance, c: u32) -> u64
-    ensures { sub_ℕ result shift_bias ≡ advance_shift (factor sf) (advance_value a) (c_value c) }
+    ensures value { sub_ℕ result shift_bias ≡ advance_shift (factor sf) (advance_value a) (c_value c) }
+    ensures fits { result ≤ 2 * shift_bias }
 {
-    if a.tenths == 0 {
-        return SHIFT_BIAS;
-    }
     let s = shift_counts(sf, a.tenths, magnitude(c));
     let back = c < Speed::C_BIAS;
     if a.negative != back {
@@ -52,8 +56,10 @@ fn shift(sf: ScaleFactor, a: Advance, c: u32) -> u64
 }
 
 // A count taken back by the displacement of a setpoint, which is −s: (p + s) mod SF, where s has its bias.
+#[cold]
+#[inline(never)]
 #[tactic(auto, using(crate::proofs::Advance::back_down, crate::proofs::Advance::back_up))]
-fn taken_back(sf: ScaleFactor, s: u64, p: u16) -> u16
+fn taken_round(sf: ScaleFactor, s: u64, p: u16) -> u16
     ensures { result ≡ taken_back (factor sf) (sub_ℕ s shift_bias) p }
 {
     if s < SHIFT_BIAS {
@@ -62,16 +68,24 @@ fn taken_back(sf: ScaleFactor, s: u64, p: u16) -> u16
     sf.sum(p, sf.reduced(s - SHIFT_BIAS))
 }
 
-// ON shift less OFF shift, both with their bias, and SF more. From a turn on to either side it makes no difference how much it is.
-#[tactic(auto, unfolding(crate::specs::Parts::spread_of))]
-fn spread(sf: ScaleFactor, on: u64, off: u64) -> u32
-    ensures { result ≡ spread_of (factor sf) (sub_ℕ on off) }
+// The same; where it stays within the turn nothing is reduced.
+fn taken_back(sf: ScaleFactor, s: u64, p: u16) -> u16
+    ensures { result ≡ taken_back (factor sf) (sub_ℕ s shift_bias) p }
 {
-    let sf = sf.whole() as u64;
-    if on < off {
-        return sf.saturating_sub(off - on) as u32;
+    let at = s.wrapping_add(p as u64).wrapping_sub(SHIFT_BIAS);
+    if at < sf.whole() as u64 {
+        return at as u16;
     }
-    (sf + sf.min(on - off)) as u32
+    taken_round(sf, s, p)
+}
+
+// The spread of two shifts that are over a turn apart; `far` is the ON shift and a turn.
+#[cold]
+#[inline(never)]
+fn spread_beyond(turn: u64, far: u64, off: u64) -> u64
+    ensures { result ≡ min (far - off) (2 * turn) }
+{
+    far.saturating_sub(off).min(turn.saturating_mul(2))
 }
 
 // The count of the position that a switch reads. Not a `From`, by which either position could stand for the other anywhere.
@@ -95,21 +109,22 @@ fn pair(setpoints: &[u16; 16], k: u16) -> Pair
     }
 }
 
-// Whether a switch holds, and how many pair tests that took.
+// Whether a switch holds, and the pairs tested for it, a bit for each.
 #[derive(Clone, Copy)]
 pub struct Tested {
     pub holds: bool,
-    pub tests: u16,
+    pub tested: u8,
 }
 
 // A pulse or timed switch, of one pair: one test, and none at 0/0.
+#[tactic(auto, using(crate::proofs::SideBySide::ones_byte))]
 fn one_tested(l: &Limit, holds: bool) -> Tested
-    ensures { (result.holds ≡ holds) × (result.tests ≡ digit (pair_used l.now 0)) }
+    ensures { (result.holds ≡ holds) × (count_ones result.tested ≡ digit (pair_used l.now 0)) }
 {
     let pair = pair(&l.setpoints, 0);
     Tested {
         holds,
-        tests: used_pair(pair) as u16,
+        tested: used_pair(pair) as u8,
     }
 }
 
@@ -139,22 +154,44 @@ impl Displaced {
         at + (self.sf.whole() - length) < self.spread
     }
 
-    // The loop that tests the pairs of a normal switch, up to the first that holds, and counts them. An unused one is no test.
-    fn pairs_tested(self, setpoints: &[u16; 16]) -> Tested
-        ensures { (result.holds ≡ some_pair (factor self.sf) self.from self.spread setpoints.now) × (result.tests ≡ pairs_tested (factor self.sf) self.from self.spread setpoints.now) }
+    // The pairs of a normal switch one after the other, up to the first that holds, each test counted. An unused one is no test.
+    #[cold]
+    #[inline(never)]
+    fn one_by_one(self, setpoints: &[u16; 16]) -> Tested
+        ensures { (result.holds ≡ some_pair (factor self.sf) self.from self.spread setpoints.now) × (count_ones result.tested ≡ pairs_tested (factor self.sf) self.from self.spread setpoints.now) }
     {
-        let mut tests = 0;
+        let mut tested = 0;
         for k in 0..8 {
             let pair = pair(setpoints, k);
-            tests += used_pair(pair) as u16;
+            tested = tested * 2 + used_pair(pair) as u8;
             if self.pair_holds(pair) {
-                return Tested { holds: true, tests };
+                return Tested {
+                    holds: true,
+                    tested,
+                };
             }
         }
         Tested {
             holds: false,
-            tests,
+            tested,
         }
+    }
+
+    // The same: side by side where the lanes are wide enough and all counts in range, as in every accepted programming.
+    fn pairs_tested(self, setpoints: &[u16; 16]) -> Tested
+        ensures { (result.holds ≡ some_pair (factor self.sf) self.from self.spread setpoints.now) × (count_ones result.tested ≡ pairs_tested (factor self.sf) self.from self.spread setpoints.now) }
+    {
+        let top = self.sf.top;
+        let Sides { on, off } = sides_of(setpoints);
+        if top < LANE_TOP && in_range(on, off, self.from, top) {
+            let used = used(on, off);
+            let held = used & holding(on, off, top, self.from, self.spread.min(65535) as u16);
+            return Tested {
+                holds: held != 0,
+                tested: up_to_lowest(used, held),
+            };
+        }
+        self.one_by_one(setpoints)
     }
 }
 
@@ -222,16 +259,24 @@ pub struct Moment {
 impl Moment {
     // What the pairs of a switch are tested with. Called, its structs would go through memory for each output.
     #[inline(always)]
-    #[tactic(auto, using(crate::proofs::Advance::one_bias))]
+    #[tactic(auto, using(crate::proofs::Advance::one_bias, crate::proofs::Advance::spread_within))]
     fn displaced(self, l: &Limit) -> Displaced
         ensures { (result.sf ≡ self.sf) × (result.from ≡ taken_back (factor self.sf) (on_shift (factor self.sf) (c_value self.c) l.now) (count_at self.position)) × (result.spread ≡ spread_of (factor self.sf) (on_shift (factor self.sf) (c_value self.c) l.now -ℤ off_shift (factor self.sf) (c_value self.c) l.now)) }
     {
         let on = shift(self.sf, l.onadvance, self.c);
         let off = shift(self.sf, l.offadvance, self.c);
+        let turn = self.sf.whole() as u64;
+        let far = on + turn;
+        let near = far.wrapping_sub(off);
+        let spread = if near <= 2 * turn {
+            near
+        } else {
+            spread_beyond(turn, far, off)
+        };
         Displaced {
             sf: self.sf,
             from: taken_back(self.sf, on, count_at(self.position)),
-            spread: spread(self.sf, on, off),
+            spread: spread as u32,
         }
     }
 
@@ -246,7 +291,7 @@ impl Moment {
     // Normal: some used pair holds.
     #[tactic(auto, using(crate::proofs::Pairs::some_displaced, crate::proofs::Pairs::tests_displaced))]
     fn normal_tested(self, l: &Limit) -> Tested
-        ensures { (result.holds ≡ normal_holds (factor self.sf) (c_value self.c) l.now self.position) × (result.tests ≡ switch_tests (factor self.sf) (c_value self.c) l.now Normal self.position) }
+        ensures { (result.holds ≡ normal_holds (factor self.sf) (c_value self.c) l.now self.position) × (count_ones result.tested ≡ switch_tests (factor self.sf) (c_value self.c) l.now Normal self.position) }
     {
         self.displaced(l).pairs_tested(&l.setpoints)
     }
@@ -269,16 +314,16 @@ impl Moment {
         train.is_on(self.sf.ahead(pair.on, from))
     }
 
-    // A switch holds, a timed one as if its time lasted, and how many of its pairs were tested for it.
+    // A switch of that type holds, a timed one as if its time lasted, and how many of its pairs were tested for it. The type stays an argument: the caller has
+    // it of the limit's action, and asks it for more.
     #[tactic(auto, unfolding(rules::specs::Switches::switch_holds, rules::specs::Switches::switch_tests))]
-    pub fn switch_tested(self, l: &Limit) -> Tested
-        ensures { (result.holds ≡ switch_holds (factor self.sf) (c_value self.c) l.now (limit_switch l.now) self.position true) × (result.tests ≡ switch_tests (factor self.sf) (c_value self.c) l.now (limit_switch l.now) self.position) }
+    pub fn switch_tested(self, s: Switch, l: &Limit) -> Tested
+        ensures { (result.holds ≡ switch_holds (factor self.sf) (c_value self.c) l.now s self.position true) × (count_ones result.tested ≡ switch_tests (factor self.sf) (c_value self.c) l.now s self.position) }
     {
-        let s = Switch::from(l.action);
         match s {
             Switch::Unprogrammed => Tested {
                 holds: false,
-                tests: 0,
+                tested: 0,
             },
             Switch::Normal => self.normal_tested(l),
             Switch::Pulse(q, k) => one_tested(l, self.pulse_holds(l, q, k)),

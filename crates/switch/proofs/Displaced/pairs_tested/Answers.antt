@@ -1,57 +1,29 @@
--- `Displaced::pairs_tested` meets its contract: pair by pair, up to the first that holds. Assumes nothing.
-use Prim.Native.Nat.{ℕ, ◌+◌}
-use mathlib.Core.Bool.{Bool, true}
-use mathlib.Core.Logic.{inl, inr}
-use mathlib.Core.Path.{◌≡◌, refl, sym, ap₂, ◌∙◌}
-use native.Mathlib.Nat.{zero-add}
-use native.Mathlib.Omega.{arith}
-use Rattle.std.proofs.lemmas.Bool.{cases_eq}
-use Rattle.word.proofs.Laws.{byte_digit, some_none, some_one}
-use Rattle.rules.proofs.Packing.{digit_le}
-use Rattle.rules.specs.Words.{count_of}
-use Rattle.rules.specs.Counts.{used_pair}
-use mir.Val.{bool_byte}
-use Rattle.rules.proofs.Tests.{count_more, up_to_none, up_to_first}
-use Rattle.switch.specs.Parts.{pair_of, some_pair, used_of, pairs_tested}
+-- `Displaced::pairs_tested` meets its contract where the pairs are tested side by side. Assumes nothing.
+use Prim.Native.Nat.{ℕ, ◌+◌, ◌*◌, min}
+use mathlib.Core.Bool.{true, not, ◌&&◌}
+use mathlib.Core.Path.{◌≡◌, sym, ap, ◌∙◌}
+use lib.Bits.{bit_and}
+use lib.Dec.{eqb, leb}
+use lib.ListN.{get_or}
+use Rattle.rules.specs.Words.{table, packed, each_of}
+use Rattle.word.proofs.Laws.{some_packed}
+use Rattle.switch.specs.Parts.{pair_of, some_pair, used_of, pairs_tested, lane_holds}
+use Rattle.switch.proofs.SideBySide.{both_marked}
 use Rattle.switch.proofs.Displaced.pairs_tested.Goals as goal
 
--- a pair more of those that are counted
-counted : (k tests : ℕ) (used : ℕ → Bool) (b : Bool) → b ≡ used k → tests ≡ count_of k 0 used → tests + bool_byte b ≡ count_of (k + 1) 0 used
-counted k tests used b e h = rw (byte_digit, e, h) (sym (rw (zero-add k) at (count_more k 0 used)))
-
-pub loop-k-init : goal.loop-k-init
-unfolding count_of
-loop-k-init c = (λ j b. absurd (omega arith), refl, omega arith)
-
-pub returns-then-pair_holds : goal.returns-then-pair_holds
-unfolding some_pair pairs_tested pair_of
-returns-then-pair_holds c =
-    let x = c.args in
-    let l = c.loop-k in
-    let pair = c.pair-pair.ensures in
-    let holds = pair_of (x.self.sf.top + 1) x.self.from x.self.spread x.setpoints.now in
-    let held : holds (0 + l.k) ≡ true = rw (zero-add l.k) (rw (pair.0, pair.1) at (sym c.pair_holds.ensures ∙ c.if-pair_holds.true)) in (
-      sym (some_one 8 0 l.k holds (omega arith) held),
-      counted l.k l.tests (used_of x.setpoints.now) c.used_pair.result (c.used_pair.ensures ∙ ap₂ used_pair pair.0 pair.1) l.invariant.1
-          ∙ sym (up_to_first 8 0 l.k (used_of x.setpoints.now) holds (omega arith) (λ j a b. l.invariant.0 j (omega arith)) held),
-    )
-
-pub loop-k-preserved : goal.loop-k-preserved
-unfolding pair_of
-loop-k-preserved c =
-    let x = c.args in
-    let l = c.loop-k in
-    let pair = c.pair-pair.ensures in (
-      λ j b. elim (cases_eq j l.k) [ inl e ↦ rw e (rw (pair.0, pair.1) at (sym c.pair_holds.ensures ∙ c.if-pair_holds.false)) | inr d ↦ l.invariant.0 j (omega arith) ],
-      counted l.k l.tests (used_of x.setpoints.now) c.used_pair.result (c.used_pair.ensures ∙ ap₂ used_pair pair.0 pair.1) l.invariant.1,
-      omega (arith, l.invariant.2, byte_digit c.used_pair.result, digit_le c.used_pair.result),
-    )
-
-pub returns : goal.returns
-unfolding some_pair pairs_tested
-returns c =
-    let l = c.loop-k in
-    let k : l.k ≡ 8 = omega arith in (
-      sym (some_none 8 0 _ (λ j a b. l.invariant.0 j (omega arith))),
-      l.invariant.1 ∙ rw k (sym (up_to_none 8 0 _ _ (λ j a b. l.invariant.0 j (omega arith)))),
-    )
+pub returns-then-in_range : goal.returns-then-in_range
+unfolding table packed each_of some_pair pairs_tested
+returns-then-in_range c =
+    let x = c.args.self in
+    let top = x.sf.top in
+    let s = c.args.setpoints.now in
+    let sides = c.sides_of.ensures in
+    let holds = pair_of (top + 1) x.from x.spread s in
+    let used : c.used-used.result ≡ packed 8 0 (used_of s) = rw (sides.0, sides.1) at c.used-used.ensures in
+    let lanes : c.holding.result ≡ packed 8 0 (λ k. lane_holds top x.from (min x.spread 65535) (get_or s (2 * k) 0) (get_or s (2 * k + 1) 0)) =
+    rw (sides.0, sides.1, c.min.ensures) at c.holding.ensures in
+    let range : each_of 8 0 (λ k. leb (get_or s (2 * k) 0) top && leb (get_or s (2 * k + 1) 0) top && leb x.from top) ≡ true =
+    rw (sides.0, sides.1) at (sym c.in_range.ensures ∙ c.if-in_range.true) in
+    let held : bit_and c.used-used.result c.holding.result ≡ packed 8 0 holds =
+    rw (used, lanes) (both_marked top x.from x.spread s c.if-top-lt-LANE_TOP.true range) in
+    (ap (λ (z : ℕ). not (eqb z 0)) held ∙ sym (some_packed 8 0 holds), c.up_to_lowest.ensures (used_of s) holds used held)

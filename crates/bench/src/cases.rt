@@ -1,21 +1,23 @@
-// The two cases of docs/BENCH.md: what a module is programmed with, and the module so programmed.
+// The cards of docs/BENCH.md: what a module is programmed with, and the module so programmed.
 use file_cycle::file_cycle;
 use rules::{FileCycle, Model, Module};
 use std::array;
 
-const TRANSMIT: u16 = 32768;
+// Transmit alone, as a command word.
+pub const TRANSMIT: u16 = 32768;
 
-// Case a, a full card, and case b, a small one.
+// Case a, a full card, case b, a small one, and case x, the full card with pairs and groups for which nearly every pair is tested.
 #[derive(Clone, Copy)]
 pub enum Case {
     Full,
     Small,
+    Worst,
 }
 
 impl Case {
     fn module_number(self) -> u16 {
         match self {
-            Case::Full => 8513,
+            Case::Full | Case::Worst => 8513,
             Case::Small => 8512,
         }
     }
@@ -23,7 +25,7 @@ impl Case {
     // The setup words 0 to 11.
     fn setup(self) -> [u16; 12] {
         match self {
-            Case::Full => [33057, 1000, 0, 10, 100, 20000, 1, 30000, 3, 2, 0, 0],
+            Case::Full | Case::Worst => [33057, 1000, 0, 10, 100, 20000, 1, 30000, 3, 2, 0, 0],
             Case::Small => [32801, 1024, 0, 0, 0, 0, 0, 0, 1, 1, 0, 0],
         }
     }
@@ -40,6 +42,14 @@ impl Case {
                 [58630, 200, 700, 40],
             ],
             Case::Small => [[32772, 0, 0, 0], [0; 4], [0; 4], [0; 4], [0; 4], [0; 4]],
+            Case::Worst => [
+                [33029, 900, 100, 50],
+                [33029, 900, 100, 50],
+                [33030, 900, 100, 50],
+                [49413, 900, 100, 50],
+                [49413, 900, 100, 50],
+                [49414, 900, 100, 50],
+            ],
         }
     }
 
@@ -48,6 +58,7 @@ impl Case {
         match self {
             Case::Full => full_output(n, j),
             Case::Small => small_output(n, j),
+            Case::Worst => worst_output(n, j),
         }
     }
 
@@ -70,37 +81,43 @@ impl Case {
         }
     }
 
-    fn m1(self) -> [u16; 650] {
+    pub fn m1(self) -> [u16; 650] {
         array::from_fn(|i| self.m1_word(i))
     }
 }
 
-// An advance: least + n for an even n, else −least − n.
-fn advance(n: u8, least: u8) -> u16 {
-    let a = least as u16 + n as u16;
-    if n % 2 == 0 { a } else { a.wrapping_neg() }
+// An advance of that magnitude: negative for an odd n.
+fn advance(n: u8, tenths: u16) -> u16 {
+    if n % 2 == 0 {
+        tenths
+    } else {
+        tenths.wrapping_neg()
+    }
 }
 
-// ON setpoint k + 1 of output n + 1 of the full card.
-fn full_on(n: u8, k: u8) -> u16 {
-    let spacing = 125 + 3 * (n % 4) as u32;
-    ((31 * n as u32 + spacing * k as u32) % 1000) as u16
+// Word i of the pairs of output n + 1: the ON setpoints are `spacing` counts apart, and each pair is `length` counts long.
+fn pair_word(n: u8, i: u8, spacing: u8, length: u16) -> u16 {
+    let on = (31 * n as u32 + spacing as u32 * (i / 2) as u32) % 1000;
+    let at = if i % 2 == 0 { on } else { on + length as u32 };
+    (at % 1000) as u16
 }
 
 // Word j of the block of output n + 1 of the full card.
 fn full_output(n: u8, j: u8) -> u16 {
     match j {
         0 => 8192 * (n % 3) as u16,
-        1 => advance(n, 10),
-        2 => advance(n, 5),
-        _ => {
-            let on = full_on(n, (j - 3) / 2);
-            if j % 2 == 1 {
-                on
-            } else {
-                (on % 1000 + 40 + n as u16) % 1000
-            }
-        }
+        1 => advance(n, 10 + n as u16),
+        2 => advance(n, 5 + n as u16),
+        _ => pair_word(n, j - 3, 125 + 3 * (n % 4), 40 + n as u16),
+    }
+}
+
+// The same of case x: the largest advances, and pairs of one count.
+fn worst_output(n: u8, j: u8) -> u16 {
+    match j {
+        0 => 8192 * (1 + n % 2) as u16,
+        1 | 2 => advance(n, 999),
+        _ => pair_word(n, j - 3, 125, 1),
     }
 }
 

@@ -1,23 +1,35 @@
-// Steps and frames from memory and a checksum over their answers, to measure their time: docs/BENCH.md.
+// Steps, programming cycles and frames from memory and a checksum over their answers, to measure their time: docs/BENCH.md.
 #![tactic(auto)]
 
 mod arguments;
 mod cases;
+mod cycles;
 mod frames;
 mod steps;
 
-use crate::arguments::{Measure, measure_name, measure_of};
-use crate::cases::module_of;
+use crate::arguments::{Measure, Work, measure_name, measure_of};
+use crate::cases::{Case, module_of};
+use crate::cycles::limits_sent;
 use crate::frames::{frames_read, frames_written};
-use crate::steps::checksum;
+use crate::steps::{Steps, checksum};
 use std::env::Env;
 use std::str::from_utf8;
 use streams::{arg, is_given};
 
-// The checksum of a measure. The steps' loop is called in one place: called from two it is compiled by itself and copies more of the module in each step.
+// The checksum of a card's work. The steps' loop is called in one place: called from two it is compiled by itself and copies more of the module in each step.
+fn sum_of_card(case: Case, work: Work, n: u32) -> u32 {
+    let mut card = module_of(case);
+    let (first, count, raw, sum) = match work {
+        Work::Steps(raw) => (0, n, raw, 0),
+        Work::Cycles => (n, 1, None, limits_sent(case, &mut card, n)),
+    };
+    checksum(card, Steps { first, count, raw }, sum)
+}
+
+// The checksum of a measure.
 fn sum_of(measure: Measure, n: u32) -> u32 {
     match measure {
-        Measure::Steps(case) => checksum(module_of(case), n),
+        Measure::OfCard(case, work) => sum_of_card(case, work, n),
         Measure::FramesWritten => frames_written(n),
         Measure::FramesRead => frames_read(n),
     }
@@ -43,6 +55,8 @@ fn run(rt: &(impl Env + Print)) -> Option<()> {
 
 fn main(rt: HostRuntime) {
     if run(&rt).is_none() {
-        let _ = eprintln!(rt; "usage: bench a N | bench b N | bench w N | bench r N");
+        let _ = eprintln!(rt;
+            "usage: bench a N | bench b N | bench x N | bench f N | bench p N | bench w N | bench r N"
+        );
     }
 }

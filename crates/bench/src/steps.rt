@@ -9,9 +9,10 @@ fn raw_at(i: u32) -> u16 {
     ((2 * p + p * p / 4096) % 1024) as u16
 }
 
-fn sample_at(i: u32) -> Sample {
+// The sample of step i, at a raw position of its own where one is given.
+fn sample_at(i: u32, raw: Option<u16>) -> Sample {
     Sample {
-        raw: raw_at(i),
+        raw: raw.unwrap_or(raw_at(i)),
         currents: (i / 32 % 65536) as u16,
         virtuals: (i / 16 % 65536) as u16,
         inputson: 0,
@@ -43,14 +44,22 @@ fn plus_answer(sum: u32, a: Answer) -> u32 {
     plus(third, a.tests as u64)
 }
 
-// The checksum over the answers of so many steps.
-pub fn checksum(m: Module, steps: u32) -> u32 {
+// The steps to be made: the first, how many, and the raw position of all where it is given.
+#[derive(Clone, Copy)]
+pub struct Steps {
+    pub first: u32,
+    pub count: u32,
+    pub raw: Option<u16>,
+}
+
+// The checksum over the answers of steps, after the numbers that are in `sum` already.
+pub fn checksum(m: Module, steps: Steps, sum: u32) -> u32 {
+    let Steps { first, count, raw } = steps;
     let mut card = m;
-    let mut sum = 0;
-    for i in 0..steps {
-        let d = engine::step(card, sample_at(i));
-        card = d.card;
-        sum = plus_answer(sum, d.answer);
+    let mut sum = sum;
+    for i in 0..count {
+        let sample = sample_at(first.wrapping_add(i), raw);
+        sum = plus_answer(sum, engine::step_in_place(&mut card, sample));
     }
     sum
 }

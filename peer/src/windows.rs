@@ -163,6 +163,13 @@ mod tests {
             let holds = windows.some_holds(position, &mut tests);
             (holds, tests.count)
         }
+
+        /// Gives what is expected and found.
+        fn check(self, pairs: &[Pair; PAIRS], position: u16) -> (bool, u32) {
+            let expected = self.expected(pairs, position);
+            assert_eq!(self.tested(pairs, position), expected);
+            expected
+        }
     }
 
     /// All pairs and moves at the least scale factors, lengths below 0 and over
@@ -182,8 +189,7 @@ mod tests {
                         longer,
                         scale,
                     };
-                    let expected = turn.expected(&pairs, position);
-                    assert_eq!(turn.tested(&pairs, position), expected);
+                    turn.check(&pairs, position);
                 }
             }
         }
@@ -216,9 +222,8 @@ mod tests {
                 longer,
                 scale,
             };
-            let expected = turn.expected(&pairs, position);
-            assert_eq!(turn.tested(&pairs, position), expected);
-            seen[usize::from(expected.0)][expected.1 as usize] += 1;
+            let (holds, tests) = turn.check(&pairs, position);
+            seen[usize::from(holds)][tests as usize] += 1;
         }
         let [dark, lit] = seen;
         assert!(dark.iter().all(|&count| count > 1000), "{dark:?}");

@@ -1,6 +1,6 @@
 // The card's own loop: the calls on a module that a host keeps where it sits, exported for C and Rust. include/chimneyrye.h is their header. The module
-// is lent as the engine has it. A step is the engine's own; each other call is one by value on what lies there, and stores what that call gives back. C has no Result: a refusal is
-// answered by its number.
+// is lent as the engine has it. A step is the engine's own; each other call is one by value on what lies there, and stores what that call gives back. C has
+// no Result: a refusal is answered by its number.
 
 #![tactic(auto)]
 

@@ -1,7 +1,7 @@
 //! The limit switch card: programming cycles, step, bytes of the rack bus,
-//! block reader, frames of the serial link and trace program. Written from
-//! documents 01 and 02 and the 8500 manual, to be compared with the other
-//! implementation.
+//! block reader, frames of the serial link, traces by column and trace program.
+//! Written from documents 01 and 02 and the 8500 manual, to be compared with the
+//! other implementation.
 
 mod bus;
 mod cycles;
@@ -11,6 +11,7 @@ mod windows;
 pub mod bench;
 pub mod blocks;
 pub mod camrun;
+pub mod columns;
 pub mod compare;
 pub mod df1;
 pub mod generate;

@@ -26,6 +26,7 @@ pub enum Refusal {
     FrameData = 15,
     FrameBuffer = 16,
     FrameForm = 17,
+    SectionLength = 18,
 }
 
 impl Refusal {

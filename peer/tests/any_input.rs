@@ -5,6 +5,7 @@ mod common;
 use common::{
     group_file, limit_file, real_group, setup_file, virtual_group, Card, ALWAYS, PULSE, TIMED,
 };
+use peer::columns::{to_columns, to_rows};
 use peer::{camrun, read_block, replay, Block, Refusal};
 
 /// A linear congruential generator, so that runs repeat.
@@ -179,6 +180,28 @@ fn programs_take_any_bytes() {
         camrun::run(&traced[..], &mut output).expect("writing to memory");
         let text = String::from_utf8(output).expect("text");
         assert!(text.is_empty() || text.ends_with('\n'));
+    }
+}
+
+#[test]
+fn sections_and_outputs_of_any_lengths() {
+    let mut numbers = Numbers(31);
+    for _ in 0..4000 {
+        let length = match numbers.below(3) {
+            0 => usize::from(numbers.below(100)),
+            1 => 9 * usize::from(numbers.below(12)),
+            _ => 26_990 + usize::from(numbers.below(30)),
+        };
+        let words: Vec<u16> = (0..length).map(|_| numbers.word()).collect();
+        let out_words = match numbers.below(4) {
+            0 => usize::from(numbers.below(100)),
+            _ => length,
+        };
+        let is_section = length % 9 == 0 && (9..=27_000).contains(&length) && out_words == length;
+        for turn in [to_columns, to_rows] {
+            let mut out = vec![0; out_words];
+            assert_eq!(turn(&words, &mut out).is_ok(), is_section);
+        }
     }
 }
 

@@ -3,6 +3,7 @@
 use std::io::{self, BufRead, Write};
 
 use crate::blocks::{read_block, Block};
+use crate::columns::{to_columns, to_rows};
 use crate::cycles::{Answer, M0_WORDS, M1_WORDS};
 use crate::df1::{read_frame, write_frame};
 use crate::module::{Module, Refusal};
@@ -98,6 +99,61 @@ impl FrameCall {
     }
 }
 
+/// What a word of a lent output is before a call.
+const UNTOUCHED_WORD: u16 = 0xeeee;
+
+/// Turns a section into a lent output.
+type SectionFunction = fn(&[u16], &mut [u16]) -> Result<(), Refusal>;
+
+/// A section to be turned to columns or to rows.
+pub struct SectionCall {
+    pub(crate) name: &'static str,
+    call: SectionFunction,
+    pub(crate) out_words: u16,
+    pub(crate) words: Vec<u16>,
+}
+
+impl SectionCall {
+    /// What follows opcode 11; None where it is cut short.
+    pub fn to_columns(words: &mut Words<impl BufRead>) -> Option<SectionCall> {
+        SectionCall::of("columns", to_columns, words)
+    }
+
+    /// What follows opcode 12; None where it is cut short.
+    pub fn to_rows(words: &mut Words<impl BufRead>) -> Option<SectionCall> {
+        SectionCall::of("rows", to_rows, words)
+    }
+
+    fn of(
+        name: &'static str,
+        call: SectionFunction,
+        words: &mut Words<impl BufRead>,
+    ) -> Option<SectionCall> {
+        Some(SectionCall {
+            name,
+            call,
+            out_words: words.next_word()?,
+            words: read_file(words)?,
+        })
+    }
+
+    /// Makes the call and writes its line.
+    pub fn make(&self, output: &mut impl Write) -> io::Result<()> {
+        let (answer, out) = self.answer();
+        let refusal = answer.map_or_else(Refusal::number, |()| 0);
+        write!(output, "{} {refusal}", self.name)?;
+        write_words(&out, output)?;
+        writeln!(output)
+    }
+
+    /// What the call answers, and the output after it.
+    pub(crate) fn answer(&self) -> (Result<(), Refusal>, Vec<u16>) {
+        let mut out = vec![UNTOUCHED_WORD; usize::from(self.out_words)];
+        let answer = (self.call)(&self.words, &mut out);
+        (answer, out)
+    }
+}
+
 /// One call of the list.
 pub(crate) enum Call {
     PowerUp(u16),
@@ -110,6 +166,7 @@ pub(crate) enum Call {
     /// The offset, and a word whose low byte is written.
     WriteByte(u16, u16),
     Frame(FrameCall),
+    Section(SectionCall),
 }
 
 /// The next call, or None for an unknown opcode or a call cut short.
@@ -138,6 +195,8 @@ pub(crate) fn read_call(words: &mut Words<impl BufRead>) -> Option<Call> {
         8 => Call::WriteByte(words.next_word()?, words.next_word()?),
         9 => Call::Frame(FrameCall::write(words)?),
         10 => Call::Frame(FrameCall::read(words)?),
+        11 => Call::Section(SectionCall::to_columns(words)?),
+        12 => Call::Section(SectionCall::to_rows(words)?),
         _ => return None,
     })
 }
@@ -176,6 +235,7 @@ pub(crate) fn make_call(
             writeln!(output)
         }
         (Call::Frame(frame), _) => frame.make(output),
+        (Call::Section(section), _) => section.make(output),
         (_, None) => writeln!(output, "none"),
         (Call::File(kind, mut file), Some(module)) => {
             let answer = (kind.cycle)(module, &mut file);

@@ -170,7 +170,7 @@ fn programs_take_any_bytes() {
                 .skip(1)
                 .step_by(2)
                 .for_each(|high| *high = 0);
-            input.iter_mut().step_by(2).for_each(|low| *low %= 13);
+            input.iter_mut().step_by(2).for_each(|low| *low %= 15);
         }
         let mut output = Vec::new();
         replay::run(&input[..], &mut output).expect("writing to memory");

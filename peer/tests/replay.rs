@@ -75,6 +75,18 @@ impl Calls {
         self
     }
 
+    fn columns(mut self, out_words: u16, words: &[u16]) -> Calls {
+        self.0.extend([11, out_words, words.len() as u16]);
+        self.0.extend(words);
+        self
+    }
+
+    fn rows(mut self, out_words: u16, words: &[u16]) -> Calls {
+        self.0.extend([12, out_words, words.len() as u16]);
+        self.0.extend(words);
+        self
+    }
+
     fn lines(&self) -> String {
         lines_of(&bytes(&self.0))
     }
@@ -508,9 +520,103 @@ fn longest_frame_calls() {
     assert_eq!(lines[2], format!("frame 0 493 {written}{rest}"));
 }
 
+/// Two samples.
+const SECTION: [u16; 18] = [
+    10, 11, 12, 13, 14, 15, 16, 17, 18, 7, 0x21, 0x22, 0x23, 0x24, 0x25, 0x26, 0x27, 0xabcd,
+];
+/// Their columns: 7 − 10 is FFFDh.
+const COLUMNS: [u16; 18] = [
+    10, 0xfffd, 11, 0x21, 12, 0x22, 13, 0x23, 14, 0x24, 15, 0x25, 16, 0x26, 17, 0x27, 18, 0xabcd,
+];
+
+#[test]
+fn columns_lines() {
+    let list = calls()
+        .columns(18, &SECTION)
+        .columns(17, &SECTION)
+        .columns(2, &SECTION[1..])
+        .columns(1, &[])
+        .columns(0, &SECTION)
+        .columns(0, &[]);
+    let untouched = " eeee".repeat(17);
+    assert_eq!(
+        list.lines(),
+        format!(
+            "columns 0 000a fffd 000b 0021 000c 0022 000d 0023 000e 0024 000f 0025 0010 0026 \
+             0011 0027 0012 abcd\n\
+             columns 18{untouched}\n\
+             columns 18 eeee eeee\n\
+             columns 18 eeee\n\
+             columns 18\n\
+             columns 18\n"
+        )
+    );
+}
+
+#[test]
+fn rows_lines() {
+    let list = calls()
+        .rows(18, &COLUMNS)
+        .rows(19, &COLUMNS)
+        .rows(2, &COLUMNS[1..])
+        .rows(1, &[])
+        .rows(0, &COLUMNS)
+        .rows(0, &[]);
+    let untouched = " eeee".repeat(19);
+    assert_eq!(
+        list.lines(),
+        format!(
+            "rows 0 000a 000b 000c 000d 000e 000f 0010 0011 0012 0007 0021 0022 0023 0024 0025 \
+             0026 0027 abcd\n\
+             rows 18{untouched}\n\
+             rows 18 eeee eeee\n\
+             rows 18 eeee\n\
+             rows 18\n\
+             rows 18\n"
+        )
+    );
+}
+
+/// They need no module and leave the one that is there.
+#[test]
+fn columns_beside_a_module() {
+    let list = calls()
+        .columns(0, &[])
+        .nudge(0)
+        .power(8511)
+        .step(sample(7, 0, 0))
+        .rows(0, &[])
+        .step([2000, 0, 0, 0, 0, 0, 0, 0, 0]);
+    assert_eq!(
+        list.lines(),
+        "columns 18\nnone\npower 0\nstep 0 7 0 0 0 0 0 0000 0000 0 0 0\n\
+         rows 18\nstep 11 7 0 0 0 0 0 0000 0000 0 0 0\n"
+    );
+}
+
+#[test]
+fn longest_columns_calls() {
+    let list = calls()
+        .columns(65535, &[1; 65535])
+        .rows(65529, &[1; 65529])
+        .rows(27000, &[1; 27000])
+        .columns(27000, &[1; 27000]);
+    let text = list.lines();
+    let lines: Vec<&str> = text.lines().collect();
+    assert_eq!(lines[0], format!("columns 18{}", " eeee".repeat(65535)));
+    assert_eq!(lines[1], format!("rows 18{}", " eeee".repeat(65529)));
+    // The raw positions are 1 to 3,000.
+    let samples: Vec<String> = (1..=3000)
+        .map(|raw| format!(" {raw:04x}{}", " 0001".repeat(8)))
+        .collect();
+    assert_eq!(lines[2], format!("rows 0{}", samples.concat()));
+    let columns = [" 0001", &" 0000".repeat(2999), &" 0001".repeat(24000)].concat();
+    assert_eq!(lines[3], format!("columns 0{columns}"));
+}
+
 #[test]
 fn unknown_opcode_is_bad_and_ends() {
-    for opcode in [11, 12, 13, 256 + 7, 65535] {
+    for opcode in [13, 14, 256 + 7, 65535] {
         assert_eq!(lines_of(&bytes(&[opcode])), "bad\n");
         assert_eq!(lines_of(&bytes(&[opcode, 0, 0, 0, 0])), "bad\n");
     }
@@ -542,6 +648,8 @@ fn p85_cut_calls_are_bad_with_or_without_a_module() {
         calls().write(17, 1),
         calls().write_frame(8, &[1, 2, 3]),
         calls().read_frame(8, &[1, 2, 3]),
+        calls().columns(9, &[1, 2, 3]),
+        calls().rows(9, &[1, 2, 3]),
     ];
     for call in list {
         let whole = bytes(&call.0);

@@ -1,9 +1,10 @@
 //! docs/REPLAY.md over the archive: one module, changed where it sits. The
-//! archive has no block reader and no frames; peer's stand in for them.
+//! archive has no block reader, no frames and no columns; peer's stand in for
+//! them.
 
 use std::io::{self, BufRead, Write};
 
-use peer::replay::FrameCall;
+use peer::replay::{FrameCall, SectionCall};
 use peer::words::Words;
 use peer::{read_block, Block, SAMPLE_WORDS};
 
@@ -54,6 +55,8 @@ impl Card<'_> {
             8 => Some(self.write_byte(words.next_word()?, words.next_word()?, output)),
             9 => Some(FrameCall::write(words)?.make(output)),
             10 => Some(FrameCall::read(words)?.make(output)),
+            11 => Some(SectionCall::to_columns(words)?.make(output)),
+            12 => Some(SectionCall::to_rows(words)?.make(output)),
             _ => None,
         }
     }

@@ -9,9 +9,9 @@ use std::thread;
 use std::time::{Duration, Instant};
 
 use crate::generate::{
-    byte_list, cycle_list, damaged_trace, extreme_list, frame_list, length_list, pair_test_list,
-    press_list, step_list, whole_trace, CallList, Extremes, Lengths, PairTests, StopPresses,
-    USUAL_SAMPLES, USUAL_STEPS,
+    byte_list, column_list, cycle_list, damaged_trace, extreme_list, frame_list, length_list,
+    pair_test_list, press_list, step_list, whole_trace, CallList, Conversions, Extremes, Lengths,
+    PairTests, StopPresses, USUAL_SAMPLES, USUAL_STEPS,
 };
 
 /// Inputs compared at the same time.
@@ -32,6 +32,7 @@ pub enum InputKind {
     Tests,
     Bytes,
     Frames,
+    Columns,
     Traces,
     Damaged,
 }
@@ -47,6 +48,7 @@ impl InputKind {
             InputKind::Tests,
             InputKind::Bytes,
             InputKind::Frames,
+            InputKind::Columns,
             InputKind::Traces,
             InputKind::Damaged,
         ]
@@ -64,6 +66,7 @@ impl InputKind {
             InputKind::Tests => "tests",
             InputKind::Bytes => "bytes",
             InputKind::Frames => "frames",
+            InputKind::Columns => "columns",
             InputKind::Traces => "traces",
             InputKind::Damaged => "damaged",
         }
@@ -91,6 +94,10 @@ impl InputKind {
             }),
             InputKind::Bytes => Input::of_list(&byte_list(seed)),
             InputKind::Frames => Input::of_list(&frame_list(seed)),
+            InputKind::Columns => Input::of_counted_list(&column_list(seed), |list| Counted {
+                conversions: Conversions::of_list(list),
+                ..Counted::default()
+            }),
             InputKind::Traces => Input::of_trace(whole_trace(seed, USUAL_SAMPLES)),
             InputKind::Damaged => Input::of_trace(damaged_trace(seed)),
         }
@@ -137,6 +144,7 @@ pub struct Counted {
     pub extremes: Extremes,
     pub lengths: Lengths,
     pub tests: PairTests,
+    pub conversions: Conversions,
 }
 
 impl Counted {
@@ -147,6 +155,7 @@ impl Counted {
         self.extremes.greatest += other.extremes.greatest;
         self.lengths.add(&other.lengths);
         self.tests.add(&other.tests);
+        self.conversions.add(&other.conversions);
     }
 }
 
@@ -167,8 +176,8 @@ pub struct Totals {
 
 impl Totals {
     /// The last line of a comparison; it counts byte accesses, presses in the
-    /// steps of stops, ends of C, lengths or tests, where the lists are made
-    /// for them.
+    /// steps of stops, ends of C, lengths, tests or sections turned, where the
+    /// lists are made for them.
     pub fn line(&self, kind: InputKind) -> String {
         let counted = match kind {
             InputKind::Bytes => format!(", {} byte accesses", self.byte_accesses),
@@ -182,6 +191,7 @@ impl Totals {
             }
             InputKind::Lengths => format!(", {}", self.counted.lengths),
             InputKind::Tests => format!(", {}", self.counted.tests),
+            InputKind::Columns => format!(", {}", self.counted.conversions),
             _ => String::new(),
         };
         format!(

@@ -8,8 +8,8 @@ use std::time::{Duration, Instant};
 use common::{run_program, run_with_arguments};
 use peer::compare::{InputKind, Programs};
 use peer::generate::{
-    extreme_list, length_list, pair_test_list, press_list, Extremes, Lengths, PairTests,
-    StopPresses,
+    column_list, extreme_list, length_list, pair_test_list, press_list, Conversions, Extremes,
+    Lengths, PairTests, StopPresses,
 };
 
 const REPLAY: &str = env!("CARGO_BIN_EXE_replay");
@@ -205,6 +205,46 @@ fn steps_at_256_are_those_of_the_lines() {
     assert_eq!(full.count() as u64, counted.sum::<u64>());
 }
 
+#[test]
+fn sections_turned_are_counted() {
+    let mut conversions = Conversions::default();
+    for seed in 1..=10 {
+        conversions.add(&Conversions::of_list(&column_list(seed)));
+    }
+    let Conversions {
+        accepted,
+        refused,
+        longest,
+    } = conversions;
+    assert_counted(
+        "columns",
+        &format!("{accepted} accepted, {refused} refused, {longest} of 3000 samples"),
+    );
+    assert!(accepted > 100 && refused > 200 && longest > 2);
+}
+
+/// Of ten lists: by the answer of each line, and its number of words.
+#[test]
+fn sections_turned_are_those_of_the_lines() {
+    let mut conversions = Conversions::default();
+    for line in (1..=10).flat_map(|seed| replay_lines(&["columns", &seed.to_string()])) {
+        let fields: Vec<&str> = line.split(' ').collect();
+        match fields[..] {
+            ["columns" | "rows", "0", ref words @ ..] => {
+                conversions.accepted += 1;
+                conversions.longest += u64::from(words.len() == 9 * 3000);
+            }
+            ["columns" | "rows", "18", ..] => conversions.refused += 1,
+            _ => {}
+        }
+    }
+    let mut counted = Conversions::default();
+    for seed in 1..=10 {
+        counted.add(&Conversions::of_list(&column_list(seed)));
+    }
+    assert_eq!(conversions, counted);
+}
+
 /// The replay program's lines for a list.
 fn replay_lines(arguments: &[&str]) -> Vec<String> {
     let list = run_with_arguments(env!("CARGO_BIN_EXE_lists"), arguments);
@@ -241,7 +281,7 @@ fn a_changed_line_is_reported() {
 
 #[test]
 fn a_changed_line_of_another_kind_is_reported() {
-    for kind in ["frames", "bytes"] {
+    for kind in ["frames", "columns", "bytes"] {
         let output = compare(&[kind, "1", "2", REPLAY, &program("changed_line")]);
         assert_eq!(output.status.code(), Some(1));
         let start = format!("{kind} seed 2: line 20 differs\n");

@@ -1,16 +1,17 @@
 //! What the lists of cycles reach: every answer, every status bit. What the
-//! lists of frames and of bytes are answered.
+//! lists of frames, of columns and of bytes are answered.
 
 use std::collections::BTreeMap;
 
 use peer::generate::{
-    byte_list, cycle_list, extreme_list, frame_list, length_list, pair_test_list, press_list,
-    step_list, CallList, USUAL_STEPS,
+    byte_list, column_list, cycle_list, extreme_list, frame_list, length_list, pair_test_list,
+    press_list, step_list, CallList, USUAL_STEPS,
 };
 use peer::replay;
 
 const LISTS: usize = 2000;
 const FRAME_LISTS: u64 = 500;
+const COLUMN_LISTS: u64 = 100;
 const BYTE_LISTS: u64 = 400;
 
 /// How often something was seen.
@@ -149,6 +150,18 @@ fn lists_of_frames_reach_every_answer() {
     assert!(calls.of("bad") > FRAME_LISTS as usize / 20);
 }
 
+#[test]
+fn lists_of_columns_reach_every_answer() {
+    let calls = answered((1..=COLUMN_LISTS).map(column_list));
+    calls.assert_all_seen(names("power", "0 3"));
+    calls.assert_all_seen(names("nudge", "idle 5"));
+    calls.assert_all_seen(["none".to_string()]);
+    for name in names("columns", "0 18").chain(names("rows", "0 18")) {
+        assert!(calls.of(&name) > 500, "seldom seen: {name}");
+    }
+    assert_eq!(calls.of("bad") as u64, COLUMN_LISTS / 10);
+}
+
 /// How often each call was answered how, over lists.
 fn answered(lists: impl Iterator<Item = CallList>) -> Counts {
     let mut calls = Counts::default();
@@ -224,6 +237,7 @@ fn a_seed_gives_one_list_and_another_seed_another() {
     for list in [
         cycle_list,
         frame_list,
+        column_list,
         byte_list,
         press_list,
         extreme_list,
@@ -246,7 +260,7 @@ fn assert_answered(list: &CallList) {
 #[test]
 fn every_call_is_answered() {
     for seed in 0..200 {
-        for list in [cycle_list(seed), frame_list(seed)] {
+        for list in [cycle_list(seed), frame_list(seed), column_list(seed)] {
             assert_eq!(list.steps(), 0);
             assert_answered(&list);
         }

@@ -84,8 +84,22 @@ fn lists_of_frames_have_both_calls() {
 }
 
 #[test]
+fn lists_of_columns_have_both_calls() {
+    // A seed whose list is not broken off.
+    let text = answers(&["columns", "2"]);
+    for name in ["columns ", "rows "] {
+        let lines = text.lines().filter(|line| line.starts_with(name));
+        assert!(lines.count() > 10, "{name}");
+    }
+    assert_eq!(steps(&text), 0);
+}
+
+#[test]
 fn lists_repeat() {
-    for kind in ["frames", "bytes", "presses", "extremes", "lengths", "tests"] {
+    let kinds = [
+        "frames", "columns", "bytes", "presses", "extremes", "lengths", "tests",
+    ];
+    for kind in kinds {
         let list = written(LISTS, &[kind, "9"]);
         assert_eq!(written(LISTS, &[kind, "9"]), list);
         assert_ne!(written(LISTS, &[kind, "10"]), list);
@@ -112,6 +126,8 @@ fn wrong_arguments_show_the_usage() {
         &["cycles", "x"],
         &["frames"],
         &["frames", "1", "2"],
+        &["columns"],
+        &["columns", "1", "2"],
         &["presses", "1", "2"],
         &["extremes", "1", "2"],
         &["lengths", "1", "2"],

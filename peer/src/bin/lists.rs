@@ -4,14 +4,14 @@
 use std::process::ExitCode;
 
 use peer::generate::{
-    byte_list, cycle_list, extreme_list, frame_list, length_list, pair_test_list, press_list,
-    step_list, CallList, USUAL_STEPS,
+    byte_list, column_list, cycle_list, extreme_list, frame_list, length_list, pair_test_list,
+    press_list, step_list, CallList, USUAL_STEPS,
 };
 use peer::words;
 
 fn main() -> ExitCode {
     words::write_from_arguments(
-        "lists cycles|presses|extremes|lengths|tests|bytes|frames SEED | lists steps SEED [STEPS]",
+        "lists cycles|presses|extremes|lengths|tests|bytes|frames|columns SEED | lists steps SEED [STEPS]",
         |arguments| list(arguments).map(|list| list.bytes()),
     )
 }
@@ -27,6 +27,7 @@ fn list(arguments: &[&str]) -> Option<CallList> {
         ["tests", seed] => pair_test_list(seed.parse().ok()?),
         ["bytes", seed] => byte_list(seed.parse().ok()?),
         ["frames", seed] => frame_list(seed.parse().ok()?),
+        ["columns", seed] => column_list(seed.parse().ok()?),
         _ => return None,
     })
 }

@@ -66,6 +66,18 @@ impl CallList {
         self.counted(words);
     }
 
+    /// A section turned to columns, into an output of `out_words` words.
+    pub fn columns(&mut self, out_words: u16, words: &[u16]) {
+        self.call(&[11, out_words]);
+        self.counted(words);
+    }
+
+    /// Columns turned back to rows.
+    pub fn rows(&mut self, out_words: u16, words: &[u16]) {
+        self.call(&[12, out_words]);
+        self.counted(words);
+    }
+
     fn counted(&mut self, file: &[u16]) {
         self.words.push(file.len() as u16);
         self.words.extend(file);
@@ -118,15 +130,17 @@ mod tests {
         list.write_byte(16, 0x0301);
         list.write_frame(493, &[6, 7]);
         list.read_frame(0, &[8]);
+        list.columns(9, &[3, 4]);
+        list.rows(0, &[5]);
         let words = [
             0, 8511, 2, 2, 7, 8, 4, 0x1234, 5, 1, 2, 3, 4, 5, 6, 7, 8, 9, 6, 1, 32, 1, 5, 0, 7, 17,
-            8, 16, 0x0301, 9, 493, 2, 6, 7, 10, 0, 1, 8,
+            8, 16, 0x0301, 9, 493, 2, 6, 7, 10, 0, 1, 8, 11, 9, 2, 3, 4, 12, 0, 1, 5,
         ];
         assert_eq!(list.words, words);
-        assert_eq!((list.lines(), list.steps()), (9, 1));
+        assert_eq!((list.lines(), list.steps()), (11, 1));
         assert_eq!(list.bytes()[..6], [0, 0, 0x3f, 0x21, 2, 0]);
         list.break_off(vec![9]);
         assert_eq!(list.bytes().len(), 2 * words.len() + 1);
-        assert_eq!(list.lines(), 10);
+        assert_eq!(list.lines(), 12);
     }
 }

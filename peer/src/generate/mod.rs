@@ -8,6 +8,9 @@ mod byte_coverage;
 mod byte_lists;
 mod call_list;
 #[cfg(test)]
+mod column_coverage;
+mod column_lists;
+#[cfg(test)]
 mod coverage;
 mod cycle_lists;
 mod extreme_lists;
@@ -33,6 +36,7 @@ mod traces;
 
 pub use byte_lists::byte_list;
 pub use call_list::CallList;
+pub use column_lists::{column_list, Conversions};
 pub use cycle_lists::cycle_list;
 pub use extreme_lists::{extreme_list, Extremes};
 pub use frame_lists::frame_list;

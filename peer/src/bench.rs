@@ -1,12 +1,13 @@
-//! Steps, programming cycles and frames from memory with a checksum over their
-//! answers, to measure their time. docs/BENCH.md has the programming, the
-//! samples, the frames and the checksum.
+//! Steps, programming cycles, frames and turned sections from memory with a
+//! checksum over their answers, to measure their time. docs/BENCH.md has the
+//! programming, the samples, the frames, the sections and the checksum.
 
 use crate::blocks::{group_block_at, limit_block_at, GROUP_BLOCK_WORDS, LIMIT_BLOCK_WORDS};
+use crate::columns::{to_columns, to_rows, MOST_SAMPLES};
 use crate::cycles::{Answer, GROUP_COMMAND, M0_WORDS, M1_WORDS, TRANSMIT};
 use crate::df1::{read_frame, write_frame, LONGEST_FRAME, MOST_DATA};
 use crate::limit_block::PAIRS;
-use crate::module::Module;
+use crate::module::{Module, Refusal};
 use crate::motion::TURN;
 use crate::step::{StepAnswer, SAMPLE_WORDS};
 
@@ -245,11 +246,13 @@ pub fn line(arguments: &[&str], run: fn(&str, u32) -> Option<u32>) -> Option<Vec
     Some(format!("{name} {count} {checksum}\n").into_bytes())
 }
 
-/// The checksum of this many steps, turns or frames of a case.
+/// The checksum of this many steps, turns, frames or sections of a case.
 pub fn run(name: &str, count: u32) -> Option<u32> {
     match name {
         "w" => Some(write_frames(count)),
         "r" => Some(read_frames(count)),
+        "c" => Some(turn_to_columns(count)),
+        "d" => Some(turn_to_rows(count)),
         _ => Some(Case::of_name(name)?.run(count)),
     }
 }
@@ -320,6 +323,48 @@ fn number(bytes: &[u8], count: u32) -> u32 {
     let place = count as usize % bytes.len();
     let last = bytes[bytes.len() - 1];
     (bytes.len() as u32) << 16 | u32::from(bytes[place]) << 8 | u32::from(last)
+}
+
+/// Words of a section of the most samples.
+const SECTION_WORDS: usize = MOST_SAMPLES * SAMPLE_WORDS;
+
+/// The first section.
+fn first_section() -> Vec<u16> {
+    (0..SECTION_WORDS).map(|place| (7 * place) as u16).collect()
+}
+
+/// The checksum of this many sections turned to columns, whose last raw
+/// difference it takes each time.
+fn turn_to_columns(turns: u32) -> u32 {
+    turn_sections(turns, first_section(), to_columns, MOST_SAMPLES - 1)
+}
+
+/// The checksum of this many sections turned to rows, whose last raw position
+/// it takes each time.
+fn turn_to_rows(turns: u32) -> u32 {
+    let mut columns = vec![0; SECTION_WORDS];
+    to_columns(&first_section(), &mut columns).expect("a section and its output");
+    turn_sections(turns, columns, to_rows, SECTION_WORDS - SAMPLE_WORDS)
+}
+
+/// Each turn adds 1 to a word. A number is of the output's word at that place
+/// and of the one at `last_raw`.
+fn turn_sections(
+    turns: u32,
+    mut words: Vec<u16>,
+    call: fn(&[u16], &mut [u16]) -> Result<(), Refusal>,
+    last_raw: usize,
+) -> u32 {
+    let mut out = vec![0; words.len()];
+    (0..turns).fold(0, |sum, turn| {
+        let place = turn as usize % words.len();
+        words[place] = words[place].wrapping_add(1);
+        let number = match call(&words, &mut out) {
+            Ok(()) => u32::from(out[place]) << 16 | u32::from(out[last_raw]),
+            Err(_) => 0,
+        };
+        checksum(sum, [number])
+    })
 }
 
 /// The checksum with the numbers of one more answer.

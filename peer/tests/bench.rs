@@ -1,5 +1,6 @@
 //! The checksum of the bench, made again from the replay program's lines
-//! with the programming, samples, cycles and frames of docs/BENCH.md.
+//! with the programming, samples, cycles, frames and sections of
+//! docs/BENCH.md.
 
 mod common;
 
@@ -187,6 +188,47 @@ fn frame_checksum(lines: &[Vec<String>]) -> u64 {
     })
 }
 
+/// Word i of the first section.
+fn section_word(i: usize) -> u16 {
+    (7 * i % 65536) as u16
+}
+
+/// The replay program's lines for the turns of case c.
+fn turned_to_columns(turns: usize) -> Vec<Vec<String>> {
+    let mut list = CallList::default();
+    let mut section: Vec<u16> = (0..27000).map(section_word).collect();
+    for t in 0..turns {
+        section[t % 27000] = section[t % 27000].wrapping_add(1);
+        list.columns(27000, &section);
+    }
+    fields_of(&list)
+}
+
+/// The replay program's lines for the turns of case d. The raw positions of
+/// the first section are 63 apart.
+fn turned_to_rows(turns: usize) -> Vec<Vec<String>> {
+    let mut list = CallList::default();
+    let differences = (0..3000).map(|r| if r == 0 { 0 } else { 63 });
+    let others = (1..9).flat_map(|k| (0..3000).map(move |r| section_word(9 * r + k)));
+    let mut columns: Vec<u16> = differences.chain(others).collect();
+    for t in 0..turns {
+        columns[t % 27000] = columns[t % 27000].wrapping_add(1);
+        list.rows(27000, &columns);
+    }
+    fields_of(&list)
+}
+
+/// The checksum of case c or d, whose second word is the one at this place.
+fn section_checksum(lines: &[Vec<String>], second: usize) -> u64 {
+    lines.iter().enumerate().fold(0, |sum, (t, fields)| {
+        assert_eq!(fields[1], "0");
+        assert_eq!(fields.len(), 2 + 27000);
+        let word = |place: usize| u64::from_str_radix(&fields[2 + place], 16).expect("hexadecimal");
+        let number = 65536 * word(t % 27000) + word(second);
+        (31 * sum + number) % 4_294_967_296
+    })
+}
+
 fn checksum(steps: &[Vec<String>]) -> u64 {
     checksum_from(0, steps)
 }
@@ -270,6 +312,38 @@ fn checksums_of_frames_are_those_of_the_replay_program() {
         let checksum = frame_checksum(&readings(count));
         assert_eq!(bench("r", count as u64), format!("r {count} {checksum}\n"));
     }
+}
+
+#[test]
+fn checksums_of_sections_are_those_of_the_replay_program() {
+    for turns in [0, 1, 40] {
+        let checksum = section_checksum(&turned_to_columns(turns), 2999);
+        assert_eq!(bench("c", turns as u64), format!("c {turns} {checksum}\n"));
+        let checksum = section_checksum(&turned_to_rows(turns), 26991);
+        assert_eq!(bench("d", turns as u64), format!("d {turns} {checksum}\n"));
+    }
+}
+
+/// By hand. In the first turn of case c word 0 is 1, and so is the first raw
+/// position; the last two are 63 apart. In the first of case d the first raw
+/// position is 1, and the last 1 + 2,999 × 63, which is 2 × 65,536 + 57,866.
+#[test]
+fn first_section_by_hand() {
+    assert_eq!(bench("c", 1), format!("c 1 {}\n", 65536 + 63));
+    assert_eq!(bench("d", 1), format!("d 1 {}\n", 65536 + 57866));
+}
+
+/// After 27,000 turns each word is one more, and in the next the first is two
+/// more: the first raw position is 2, and the last two are 63 apart.
+#[test]
+fn sections_of_the_bench_go_round() {
+    let sum = |turns: u64| -> u64 {
+        let line = bench("c", turns);
+        let checksum = line.trim_end().split(' ').next_back();
+        checksum.expect("a field").parse().expect("decimal")
+    };
+    let expected = (31 * sum(27000) + 65536 * 2 + 63) % 4_294_967_296;
+    assert_eq!(sum(27001), expected);
 }
 
 /// By hand: in the first frame data byte 0 is 1, so that the check byte is
@@ -373,7 +447,13 @@ fn cases_f_and_p_by_hand() {
 
 #[test]
 fn wrong_arguments_show_the_usage() {
-    for arguments in [&["c", "1"][..], &["a"], &["a", "-1"], &["a", "4294967296"]] {
+    for arguments in [
+        &["g", "1"][..],
+        &["c"],
+        &["a"],
+        &["a", "-1"],
+        &["a", "4294967296"],
+    ] {
         let output = run_with_arguments(env!("CARGO_BIN_EXE_bench"), arguments);
         assert_eq!(output.status.code(), Some(2));
     }

@@ -7,6 +7,9 @@ use std::io::{Error, Read};
 use streams::read_full;
 use trace_bytes::input::sample_at;
 
+// How many words are read at once.
+const PART: usize = 651;
+
 // The list is cut short or has an unknown opcode. Not the `Bad` of a trace: a list of calls is no part of one.
 #[derive(Clone, Copy)]
 pub struct Bad;
@@ -68,13 +71,11 @@ pub fn read_word<R: Read>(from: &mut R) -> Result<u16, Bad> {
     Ok(u16::from_le_bytes(b))
 }
 
-// The words of so many bytes.
-fn words_of(bytes: &[u8]) -> [u16; 651] {
-    let mut words = [0; 651];
-    for (word, b) in words.iter_mut().zip(bytes.chunks_exact(2)) {
+// The words of so many bytes, at the room's start; those that it has no room for are left out.
+fn put_words(room: &mut [u16], bytes: &[u8]) {
+    for (word, b) in room.iter_mut().zip(bytes.chunks_exact(2)) {
         *word = u16::from_le_bytes([b[0], b[1]]);
     }
-    words
 }
 
 // The nine words of a sample.
@@ -84,17 +85,17 @@ pub fn read_sample<R: Read>(from: &mut R) -> Result<Sample, Bad> {
     Ok(sample_at(&b))
 }
 
-// Reads a count and that many words to the room's start, which is the file. One of over 650 words is refused by its length alone, so the parts of a longer one
-// are laid over each other.
-pub fn read_file<'a, R: Read>(from: &mut R, room: &'a mut [u16; 651]) -> Result<&'a mut [u16], Bad>
-    ensures { IfOk result (λ file. length file.now ≤ 651) }
+// Reads a count and that many words to the room's start, which are the file. Of a longer one the room has a part, since it is refused by its length alone.
+pub fn read_file<'a, R: Read>(from: &mut R, room: &'a mut [u16]) -> Result<&'a mut [u16], Bad>
+    ensures { IfOk result (λ file. length file.now ≤ length room.old) }
 {
     let count = usize::from(read_word(from)?);
-    let mut b = [0; 1302];
-    for _ in 0..count / 651 {
-        from.read_exact(&mut b)?;
+    let mut b = [0; 2 * PART];
+    for at in (0..count).step_by(PART) {
+        let bytes = &mut b[..2 * PART.min(count - at)];
+        from.read_exact(bytes)?;
+        put_words(room.get_mut(at..).unwrap_or(&mut []), bytes);
     }
-    from.read_exact(&mut b[..2 * (count % 651)])?;
-    *room = words_of(&b);
-    Ok(&mut room[..count.min(651)])
+    let kept = count.min(room.len());
+    Ok(&mut room[..kept])
 }

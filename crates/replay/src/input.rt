@@ -1,6 +1,7 @@
 // The calls of a list: little-endian words from standard input.
 ghost use Rattle.std.specs.Prelude.{◌≤◌, length, IfOk};
 
+use columns::Layout;
 use df1::Direction;
 use rules::{FileCycle, Sample};
 use std::io::{Error, Read};
@@ -31,6 +32,7 @@ pub enum Opcode {
     ReadByte,
     WriteByte,
     Frame(Direction),
+    Section(Layout),
 }
 
 impl TryFrom<u16> for Opcode {
@@ -49,6 +51,8 @@ impl TryFrom<u16> for Opcode {
             8 => Ok(Opcode::WriteByte),
             9 => Ok(Opcode::Frame(Direction::Write)),
             10 => Ok(Opcode::Frame(Direction::Read)),
+            11 => Ok(Opcode::Section(Layout::Columns)),
+            12 => Ok(Opcode::Section(Layout::Rows)),
             _ => Err(Bad),
         }
     }

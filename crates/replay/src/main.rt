@@ -4,10 +4,13 @@
 mod answer;
 mod frames;
 mod input;
+mod sections;
 
 use crate::answer::{Shown, Words, cycle_name, show_cycle, show_step, status_words};
 use crate::frames::show_frame;
 use crate::input::{Bad, Opcode, next_opcode, read_file, read_sample, read_word};
+use crate::sections::{SECTION_ROOM, show_section};
+use columns::Layout;
 use df1::Direction;
 use file_cycle::file_cycle;
 use reader::{BlockOf, read_block};
@@ -127,6 +130,15 @@ impl Replay {
         Ok(())
     }
 
+    // A section put by columns or by rows: the output's size, then the words.
+    fn section(&mut self, layout: Layout) -> Result<(), Bad> {
+        let size = read_word(&mut self.from)?;
+        let mut room = [0; SECTION_ROOM];
+        let words = read_file(&mut self.from, &mut room)?;
+        show_section(&self.to, layout, words, size);
+        Ok(())
+    }
+
     fn call(&mut self, opcode: Opcode) -> Result<(), Bad> {
         match opcode {
             Opcode::Power => self.power(),
@@ -137,6 +149,7 @@ impl Replay {
             Opcode::ReadByte => self.read_byte(),
             Opcode::WriteByte => self.write_byte(),
             Opcode::Frame(direction) => self.frame(direction),
+            Opcode::Section(layout) => self.section(layout),
         }
     }
 

@@ -121,7 +121,8 @@ impl Replay {
         Ok(())
     }
 
-    // A frame written or read: the buffer's size, then the bytes.
+    // A frame written or read: the buffer's size, then the bytes. Not inlined, as each call would pay for the buffer.
+    #[inline(never)]
     fn frame(&mut self, direction: Direction) -> Result<(), Bad> {
         let capacity = read_word(&mut self.from)?;
         let mut room = [0; 651];
@@ -130,7 +131,8 @@ impl Replay {
         Ok(())
     }
 
-    // A section put by columns or by rows: the output's size, then the words.
+    // A section put by columns or by rows: the output's size, then the words. Not inlined, as each call would pay for the room.
+    #[inline(never)]
     fn section(&mut self, layout: Layout) -> Result<(), Bad> {
         let size = read_word(&mut self.from)?;
         let mut room = [0; SECTION_ROOM];

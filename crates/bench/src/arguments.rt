@@ -1,5 +1,6 @@
-// The program's arguments: what to measure, and a number of steps, turns or frames.
+// The program's arguments: what to measure, and a number of steps, turns, frames or sections.
 use crate::cases::Case;
+use columns::Layout;
 use std::env::Env;
 use streams::arg;
 
@@ -19,6 +20,7 @@ pub enum Measure {
     OfCard(Case, Work),
     FramesWritten,
     FramesRead,
+    Sections(Layout),
 }
 
 // The measure of a name. An Option, since a `TryFrom` would want an error that nothing reads.
@@ -31,6 +33,8 @@ pub fn measure_of(name: u8) -> Option<Measure> {
         b'p' => Some(Measure::OfCard(Case::Full, Work::Cycles)),
         b'w' => Some(Measure::FramesWritten),
         b'r' => Some(Measure::FramesRead),
+        b'c' => Some(Measure::Sections(Layout::Columns)),
+        b'd' => Some(Measure::Sections(Layout::Rows)),
         _ => None,
     }
 }

@@ -1,16 +1,18 @@
-// Steps, programming cycles and frames from memory and a checksum over their answers, to measure their time: docs/BENCH.md.
+// Steps, programming cycles, frames and sections from memory and a checksum over their answers, to measure their time: docs/BENCH.md.
 #![tactic(auto)]
 
 mod arguments;
 mod cases;
 mod cycles;
 mod frames;
+mod sections;
 mod steps;
 
 use crate::arguments::{Measure, Work, measure_name, measure_of};
 use crate::cases::{Case, module_of};
 use crate::cycles::limits_sent;
 use crate::frames::{frames_read, frames_written};
+use crate::sections::sections_put;
 use crate::steps::{Steps, checksum};
 use std::env::Env;
 use std::str::from_utf8;
@@ -32,6 +34,7 @@ fn sum_of(measure: Measure, n: u32) -> u32 {
         Measure::OfCard(case, work) => sum_of_card(case, work, n),
         Measure::FramesWritten => frames_written(n),
         Measure::FramesRead => frames_read(n),
+        Measure::Sections(layout) => sections_put(layout, n),
     }
 }
 
@@ -56,7 +59,7 @@ fn run(rt: &(impl Env + Print)) -> Option<()> {
 fn main(rt: HostRuntime) {
     if run(&rt).is_none() {
         let _ = eprintln!(rt;
-            "usage: bench a N | bench b N | bench x N | bench f N | bench p N | bench w N | bench r N"
+            "usage: bench a N | bench b N | bench x N | bench f N | bench p N | bench w N | bench r N | bench c N | bench d N"
         );
     }
 }

@@ -338,7 +338,7 @@ class Cycles(unittest.TestCase):
             self.assertRegex(HEADER.split("chimneyrye_errors;")[0].rsplit("typedef struct", 1)[1], r"bool %s;" % field)
 
     def test_refusals(self):
-        defined = {**cases(rules("Cycle"), "number_of"), **cases(read("crates", "df1", "specs", "Frame.antt"), "number_of")}
+        defined = {**cases(rules("Cycle"), "number_of"), **cases(read("crates", "df1", "specs", "Frame.antt"), "number_of"), **cases(read("crates", "columns", "specs", "Section.antt"), "number_of")}
         self.assertEqual({row[1].strip("`"): int(row[0]) for row in table("number")}, defined)
 
     def test_status_words_in_the_refusals(self):
@@ -366,6 +366,10 @@ class Cycles(unittest.TestCase):
         self.assertIn("of over %d" % most, causes["15"])
         self.assertIn("1 to %d data bytes" % most, causes["17"])
         self.assertIn("A frame has %d to %d bytes." % (1 + 5, 2 * most + 5), SENTENCES)
+        words, least, samples = re.search(r"^is_section size = size % (\d+) == 0 && nat_le (\d+) \(samples_of size\) && nat_le \(samples_of size\) (\d+)$", read("crates", "columns", "specs", "Section.antt"), re.M).groups()
+        self.assertEqual((words, least), ("9", "1"))
+        self.assertIn("nine words for each of 1 to %s samples" % format(int(samples), ","), causes["18"])
+        self.assertIn("in parts of %s, %s bytes," % (format(int(samples), ","), format(18 * int(samples), ",")), SENTENCES)
 
 
 class Steps(unittest.TestCase):
@@ -491,11 +495,17 @@ class Traces(unittest.TestCase):
     def test_the_example_in_bytes_is_the_stored_trace(self):
         with open(os.path.join(ROOT, "tests", "traces", "example.trace"), "rb") as file:
             stored = file.read()
-        lines = re.findall(r"^    ((?:[0-9a-f]{2} )+) {2,}\S", HANDBOOK.split("## Traces and reports", 1)[1].split("## The serial link", 1)[0], re.M)
+        lines = re.findall(r"^    ((?:[0-9a-f]{2} )+) {2,}\S", HANDBOOK.split("## Traces and reports", 1)[1].split("## Traces stored by column", 1)[0], re.M)
         self.assertEqual(bytes.fromhex("".join(lines)), stored)
         listed = re.search(r"w = (\[1, 8513.*?\]) \+ \[0\] \* 8; .*<24H", HANDBOOK)[1]
         self.assertEqual(struct.pack("<24H", *numbers(listed), *[0] * 8), stored)
         self.assertIn("".join("    %s\n" % line for line in read("tests", "traces", "example.report").splitlines()), HANDBOOK)
+
+    def test_where_the_samples_of_a_whole_trace_begin(self):
+        at = 2 * (2 + sum(1 + count for count in cases(rules("Trace"), "section_count").values()) + 1)
+        self.assertIn("begin after %s bytes" % format(at, ","), SENTENCES)
+        self.assertEqual(set(re.findall(r"head -c (\d+)", HANDBOOK)), {str(at)})
+        self.assertEqual(set(re.findall(r"tail -c \+(\d+)", HANDBOOK)), {str(at + 1)})
 
     def test_the_frame_of_the_example(self):
         data = bytes.fromhex("01 10 41")

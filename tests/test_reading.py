@@ -79,17 +79,25 @@ class Names(unittest.TestCase):
                 self.assertGreaterEqual(len(names & edits), 2, row)
                 self.assert_declared(names - edits, code)
 
-    def test_the_serial_link_names_definitions_calls_edits_and_theorems(self):
-        edits = {os.path.splitext(os.path.basename(path))[0] for path in glob.glob(os.path.join(ROOT, "crates/df1/must-fail/*.edit"))}
-        sentences, calls, theorems = section("The serial link").split("\n|---")[1:]
-        self.assertGreater(len(named(sentences)), 15)
-        self.assert_declared(named(sentences), all_of("crates/df1/specs/*.antt"))
-        for row in [line for line in calls.splitlines() if "`df1::" in line]:
+    def assert_a_request_names_what_is_there(self, title, crates, sentences_least, theorems_least):
+        """A request of 02 in crates of its own: definitions, calls with at least two edits each, every edit, theorems."""
+        of = lambda pattern: "".join(all_of("crates/%s/%s" % (crate, pattern)) for crate in crates)
+        edits = {os.path.splitext(os.path.basename(path))[0] for crate in crates for path in glob.glob(os.path.join(ROOT, "crates", crate, "must-fail", "*.edit"))}
+        sentences, calls, theorems = section(title).split("\n|---")[1:]
+        self.assertGreater(len(named(sentences)), sentences_least)
+        self.assert_declared(named(sentences), of("specs/*.antt"))
+        for row in [line for line in calls.splitlines() if any("`%s::" % crate in line for crate in crates)]:
             self.assertGreaterEqual(len(named(row) & edits), 2, row)
         self.assertEqual(edits - named(calls), set())
-        self.assert_declared(named(calls) - edits, all_of("crates/df1/src/*.rt") + all_of("crates/df1/specs/*.antt"))
-        self.assertGreater(len(named(theorems)), 15)
-        self.assert_declared(named(theorems), all_of("crates/df1/proofs/*.antt"))
+        self.assert_declared(named(calls) - edits, of("src/*.rt") + of("specs/*.antt"))
+        self.assertGreater(len(named(theorems)), theorems_least)
+        self.assert_declared(named(theorems), of("proofs/*.antt"))
+
+    def test_the_serial_link_names_definitions_calls_edits_and_theorems(self):
+        self.assert_a_request_names_what_is_there("The serial link", ["df1"], 15, 15)
+
+    def test_traces_stored_by_column_name_definitions_calls_edits_and_theorems(self):
+        self.assert_a_request_names_what_is_there("Traces stored by column", ["columns", "trace_columns"], 15, 15)
 
     def test_the_history_names_definitions(self):
         self.assert_declared(named(section("The history, sentence by sentence")), all_of("crates/rules/specs/*.antt") + all_of("crates/rules/src/*.rt"))

@@ -3,42 +3,11 @@
 mod common;
 
 use common::{
-    group_file, limit_file, real_group, setup_file, virtual_group, Card, ALWAYS, PULSE, TIMED,
+    group_file, limit_file, real_group, setup_file, virtual_group, Card, Numbers, ALWAYS, PULSE,
+    TIMED,
 };
 use peer::columns::{to_columns, to_rows};
 use peer::{camrun, read_block, replay, Block, Refusal};
-
-/// A linear congruential generator, so that runs repeat.
-struct Numbers(u64);
-
-impl Numbers {
-    fn next(&mut self) -> u16 {
-        self.0 = self
-            .0
-            .wrapping_mul(6_364_136_223_846_793_005)
-            .wrapping_add(1_442_695_040_888_963_407);
-        (self.0 >> 40) as u16
-    }
-
-    fn below(&mut self, limit: u16) -> u16 {
-        self.next() % limit
-    }
-
-    /// Mostly small, sometimes at an edge, sometimes anything.
-    fn word(&mut self) -> u16 {
-        match self.below(6) {
-            0 => self.next(),
-            1 => [0, 1, 999, 1023, 1024, 0x7fff, 0x8000, 0xffff][usize::from(self.below(8))],
-            2 => self.below(1024),
-            3 => 1 << self.below(16),
-            _ => self.below(8),
-        }
-    }
-
-    fn bytes(&mut self, length: usize) -> Vec<u8> {
-        (0..length).map(|_| self.next() as u8).collect()
-    }
-}
 
 /// Changes some words of a file.
 fn damage(numbers: &mut Numbers, file: &mut [u16]) {

@@ -1,6 +1,9 @@
 //! Traces stored by column: request 7 of document 02 and its open points by
 //! letter.
 
+mod common;
+
+use common::Numbers;
 use peer::columns::{to_columns, to_rows};
 use peer::generate::{whole_trace, USUAL_SAMPLES};
 use peer::{camrun, Refusal};
@@ -57,23 +60,6 @@ fn expected_columns(section: &[u16]) -> Vec<u16> {
         *raw = raw.wrapping_sub(*before);
     }
     columns.concat()
-}
-
-/// A linear congruential generator, so that runs repeat.
-struct Numbers(u64);
-
-impl Numbers {
-    fn next(&mut self) -> u16 {
-        self.0 = self
-            .0
-            .wrapping_mul(6_364_136_223_846_793_005)
-            .wrapping_add(1_442_695_040_888_963_407);
-        (self.0 >> 40) as u16
-    }
-
-    fn words(&mut self, length: usize) -> Vec<u16> {
-        (0..length).map(|_| self.next()).collect()
-    }
 }
 
 /// Words of a length: all alike, counting on and back, the ends of a word in

@@ -1,7 +1,6 @@
 //! What the lists of bytes reach, seen call by call.
 
-use std::collections::BTreeMap;
-
+use crate::generate::classes::Classes;
 use crate::generate::{byte_list, CallList};
 use crate::module::Module;
 use crate::replay::{make_call, read_call, Call};
@@ -13,7 +12,7 @@ const SHOWN: [u16; 14] = [0, 1, 2, 3, 4, 5, 7, 8, 9, 10, 12, 13, 14, 15];
 /// How often each event was seen.
 #[derive(Default)]
 struct Seen {
-    counts: BTreeMap<String, usize>,
+    classes: Classes,
     /// The last step was answered 11.
     in_fault: bool,
 }
@@ -47,20 +46,6 @@ impl Seen {
         seen
     }
 
-    fn see(&mut self, event: impl Into<String>) {
-        *self.counts.entry(event.into()).or_default() += 1;
-    }
-
-    fn see_if(&mut self, happened: bool, event: impl Into<String>) {
-        if happened {
-            self.see(event);
-        }
-    }
-
-    fn count(&self, event: &str) -> usize {
-        self.counts.get(event).copied().unwrap_or(0)
-    }
-
     fn list(&mut self, list: &CallList) {
         let bytes = list.bytes();
         let mut words = Words::new(&bytes[..]);
@@ -83,13 +68,14 @@ impl Seen {
             }
             self.changes(&fields, before, Flags::of(&module));
         }
-        self.see_if(list.tail().is_empty(), "whole list");
-        self.see_if(!list.tail().is_empty(), "list broken off");
+        self.classes.see_if(list.tail().is_empty(), "whole list");
+        self.classes
+            .see_if(!list.tail().is_empty(), "list broken off");
     }
 
     fn answer(&mut self, fields: &[&str]) {
-        self.see("call");
-        self.see(fields[..fields.len().min(2)].join(" "));
+        self.classes.see("call");
+        self.classes.see(fields[..fields.len().min(2)].join(" "));
         match fields[0] {
             "step" => self.in_fault = fields[1] == "11",
             "power" if fields[1] == "0" => self.in_fault = false,
@@ -98,7 +84,7 @@ impl Seen {
     }
 
     fn access(&mut self, offset: u16, written: Option<u16>, fields: &[&str]) {
-        self.see("byte access");
+        self.classes.see("byte access");
         match (written, fields) {
             (None, ["read", "0", value]) => {
                 let value = u8::from_str_radix(value, 16).expect("hexadecimal");
@@ -107,14 +93,14 @@ impl Seen {
             (Some(word), ["write", "0", _]) => {
                 let parts = [word & 1, u16::from(word & 0xfe != 0), u16::from(word > 255)];
                 let [bit, others, over] = parts;
-                self.see(format!(
+                self.classes.see(format!(
                     "{offset} written: bit {bit} others {others} over {over}"
                 ));
             }
-            (_, ["none"]) => self.see("byte access without a module"),
+            (_, ["none"]) => self.classes.see("byte access without a module"),
             (_, [call, _, _]) => match offset {
-                0..=273 | 0xffff => self.see(format!("{call} {offset} refused")),
-                _ => self.see(format!("{call} far over refused")),
+                0..=273 | 0xffff => self.classes.see(format!("{call} {offset} refused")),
+                _ => self.classes.see(format!("{call} far over refused")),
             },
             _ => panic!("{fields:?}"),
         }
@@ -122,14 +108,16 @@ impl Seen {
 
     fn value_read(&mut self, offset: u16, value: u8) {
         let sort = if value == 0 { "0" } else { "not 0" };
-        self.see(format!("byte {offset} {sort}"));
-        self.see_if(self.in_fault, format!("byte {offset} {sort} after 11"));
+        self.classes.see(format!("byte {offset} {sort}"));
+        self.classes
+            .see_if(self.in_fault, format!("byte {offset} {sort} after 11"));
         if offset > 1 {
             return;
         }
         for place in 0..8 {
             let bit = value >> place & 1;
-            self.see(format!("bit {} is {bit}", 8 * offset + place));
+            self.classes
+                .see(format!("bit {} is {bit}", 8 * offset + place));
         }
     }
 
@@ -147,27 +135,13 @@ impl Seen {
             ("MsgIgn", before.ignored, after.ignored),
         ] {
             let direction = if after { "up" } else { "down" };
-            self.see_if(before != after, format!("{name} {direction} by {cause}"));
+            self.classes
+                .see_if(before != after, format!("{name} {direction} by {cause}"));
         }
-        self.see_if(
+        self.classes.see_if(
             before.mask != after.mask && before.request && after.request,
             format!("mask to {} while a request stands", u8::from(after.mask)),
         );
-    }
-
-    fn missing(&self) -> Vec<String> {
-        let is_rare = |(event, least): &(String, usize)| self.count(event) < *least;
-        required()
-            .into_iter()
-            .filter(is_rare)
-            .map(|(event, _)| event)
-            .collect()
-    }
-
-    fn print(&self) {
-        for (event, count) in &self.counts {
-            println!("{count:8} {event}");
-        }
     }
 }
 
@@ -256,15 +230,18 @@ fn written(offset: u16, parts: u16) -> String {
 #[test]
 fn lists_of_bytes_reach_every_event() {
     let seen = Seen::of(1..=400);
-    seen.print();
-    assert_eq!(seen.missing(), Vec::<String>::new());
-    assert!(2 * seen.count("byte access") > seen.count("call"));
+    seen.classes.print();
+    assert_eq!(seen.classes.missing(required()), Vec::<String>::new());
+    assert!(2 * seen.classes.count("byte access") > seen.classes.count("call"));
     // Parts that are left out.
     for offset in 12..=15 {
-        assert_eq!(seen.count(&format!("byte {offset} not 0")), 0);
+        assert_eq!(seen.classes.count(&format!("byte {offset} not 0")), 0);
     }
     assert_eq!(
-        (seen.count("bit 6 is 1"), seen.count("bit 11 is 1")),
+        (
+            seen.classes.count("bit 6 is 1"),
+            seen.classes.count("bit 11 is 1")
+        ),
         (0, 0)
     );
 }
@@ -273,7 +250,10 @@ fn lists_of_bytes_reach_every_event() {
 /// few lists do not have them all.
 #[test]
 fn events_can_be_missing() {
-    assert_eq!(Seen::of([]).missing().len(), required().len());
-    let missing = Seen::of(1..=3).missing();
+    assert_eq!(
+        Seen::of([]).classes.missing(required()).len(),
+        required().len()
+    );
+    let missing = Seen::of(1..=3).classes.missing(required());
     assert!(missing.len() > 20 && missing.len() < required().len());
 }

@@ -1,8 +1,7 @@
 //! What the lists of columns reach, seen call by call. A call is of a class by
 //! its words and its output alone, whatever it is answered.
 
-use std::collections::BTreeMap;
-
+use crate::generate::classes::Classes;
 use crate::generate::{column_list, CallList, Conversions};
 use crate::replay::{read_call, Call, SectionCall};
 use crate::words::Words;
@@ -14,7 +13,7 @@ const NAMES: [&str; 2] = ["columns", "rows"];
 /// How many calls or lists of each class were seen.
 #[derive(Default)]
 struct Seen {
-    counts: BTreeMap<String, usize>,
+    classes: Classes,
 }
 
 /// The number of samples of a section that is turned.
@@ -92,20 +91,6 @@ impl Seen {
         seen
     }
 
-    fn see(&mut self, class: impl Into<String>) {
-        *self.counts.entry(class.into()).or_default() += 1;
-    }
-
-    fn see_if(&mut self, is_so: bool, class: &str) {
-        if is_so {
-            self.see(class);
-        }
-    }
-
-    fn count(&self, class: &str) -> usize {
-        self.counts.get(class).copied().unwrap_or(0)
-    }
-
     fn list(&mut self, list: &CallList) {
         let bytes = list.bytes();
         let mut words = Words::new(&bytes[..]);
@@ -113,23 +98,25 @@ impl Seen {
         // What the call before gives.
         let mut came_out = None;
         while let Some(call) = read_call(&mut words) {
-            self.see("call");
+            self.classes.see("call");
             match call {
                 Call::Section(call) => {
-                    self.see("section call");
-                    self.see_if(powered, "section call after a power-up");
-                    self.see_if(!powered, "section call before any power-up");
+                    self.classes.see("section call");
+                    self.classes
+                        .see_if(powered, "section call after a power-up");
+                    self.classes
+                        .see_if(!powered, "section call before any power-up");
                     if came_out == Some((call.name, call.words.clone())) {
-                        self.see(format!("{}, what came out", call.name));
+                        self.classes.see(format!("{}, what came out", call.name));
                     }
                     came_out = self.section_call(&call);
                 }
                 Call::PowerUp(_) => {
                     powered = true;
-                    self.see("power-up");
+                    self.classes.see("power-up");
                 }
-                Call::Nudge(_) => self.see("nudge"),
-                _ => self.see("another call"),
+                Call::Nudge(_) => self.classes.see("nudge"),
+                _ => self.classes.see("another call"),
             }
         }
         self.tail(list.tail());
@@ -141,13 +128,15 @@ impl Seen {
         let SectionCall { name, words, .. } = call;
         let length = words.len();
         let output = output_of(call.out_words, length);
-        self.see(format!("{name}, {length} words, {output}"));
+        self.classes
+            .see(format!("{name}, {length} words, {output}"));
         let Some(samples) = samples_of(words) else {
-            self.see(format!("{name}, no section, {output}"));
-            self.see(format!("{name}, {} words over, {output}", length % WORDS));
+            self.classes.see(format!("{name}, no section, {output}"));
+            self.classes
+                .see(format!("{name}, {} words over, {output}", length % WORDS));
             return None;
         };
-        self.see(format!("{name}, section, {output}"));
+        self.classes.see(format!("{name}, section, {output}"));
         if output != "as long" {
             return None;
         }
@@ -166,20 +155,25 @@ impl Seen {
     fn raws(&mut self, name: &str, raws: &[u16]) {
         let (first, last) = (raws[0], raws[raws.len() - 1]);
         for end in [0, 0xffff] {
-            self.see_if(first == end, &format!("{name}, first raw {end}"));
-            self.see_if(last == end, &format!("{name}, last raw {end}"));
+            self.classes
+                .see_if(first == end, format!("{name}, first raw {end}"));
+            self.classes
+                .see_if(last == end, format!("{name}, last raw {end}"));
         }
         let over = raws.iter().any(|&raw| raw > 1023);
-        self.see_if(over, &format!("{name}, raws over 1023"));
-        self.see_if(!over, &format!("{name}, raws up to 1023"));
+        self.classes.see_if(over, format!("{name}, raws over 1023"));
+        self.classes
+            .see_if(!over, format!("{name}, raws up to 1023"));
         let down = raws.windows(2).filter(|pair| pair[1] < pair[0]).count();
-        self.see_if(down > 0, &format!("{name}, a raw below the one before"));
+        self.classes
+            .see_if(down > 0, format!("{name}, a raw below the one before"));
         let all_down = raws.len() > 2 && down == raws.len() - 1;
-        self.see_if(all_down, &format!("{name}, raws that go down"));
+        self.classes
+            .see_if(all_down, format!("{name}, raws that go down"));
         let ends = raws.windows(2).any(|pair| pair == [0, 0xffff]);
-        self.see_if(ends, &format!("{name}, 65535 after 0"));
+        self.classes.see_if(ends, format!("{name}, 65535 after 0"));
         let ends = raws.windows(2).any(|pair| pair == [0xffff, 0]);
-        self.see_if(ends, &format!("{name}, 0 after 65535"));
+        self.classes.see_if(ends, format!("{name}, 0 after 65535"));
     }
 
     /// Samples of at least three, so that constant and counting words tell.
@@ -188,39 +182,29 @@ impl Seen {
             return;
         }
         let constant = rows[WORDS..].iter().zip(rows).all(|(word, up)| word == up);
-        self.see_if(constant, &format!("{name}, constant columns"));
+        self.classes
+            .see_if(constant, format!("{name}, constant columns"));
         let pairs = || rows[1..].iter().zip(rows);
         let counting = pairs().all(|(word, before)| *word == before.wrapping_add(1));
-        self.see_if(counting, &format!("{name}, counting words"));
+        self.classes
+            .see_if(counting, format!("{name}, counting words"));
         let alike = pairs().all(|(word, before)| word == before);
-        self.see_if(alike, &format!("{name}, all words alike"));
+        self.classes
+            .see_if(alike, format!("{name}, all words alike"));
     }
 
     fn tail(&mut self, tail: &[u8]) {
         match tail {
-            [] => self.see("whole list"),
-            [_] => self.see("broken off in an opcode"),
-            [11, 0, ..] => self.see("broken off in a columns call"),
-            [12, 0, ..] => self.see("broken off in a rows call"),
-            _ => self.see("broken off in another call"),
+            [] => self.classes.see("whole list"),
+            [_] => self.classes.see("broken off in an opcode"),
+            [11, 0, ..] => self.classes.see("broken off in a columns call"),
+            [12, 0, ..] => self.classes.see("broken off in a rows call"),
+            _ => self.classes.see("broken off in another call"),
         }
-        self.see_if(tail.len() % 2 == 1, "broken off in a word");
-        self.see_if(tail.len() > 6, "broken off among the words");
-    }
-
-    /// Classes that were seen less often than they must be.
-    fn missing(&self) -> Vec<String> {
-        required()
-            .into_iter()
-            .filter(|(class, least)| self.count(class) < *least)
-            .map(|(class, least)| format!("{class}: {} of {least}", self.count(&class)))
-            .collect()
-    }
-
-    fn print(&self) {
-        for (class, count) in &self.counts {
-            println!("{count:8} {class}");
-        }
+        self.classes
+            .see_if(tail.len() % 2 == 1, "broken off in a word");
+        self.classes
+            .see_if(tail.len() > 6, "broken off among the words");
     }
 }
 
@@ -299,12 +283,15 @@ const SINGLE: [(&str, usize); 9] = [
 #[test]
 fn lists_of_columns_reach_every_class() {
     let seen = Seen::of(1..=100);
-    seen.print();
-    assert_eq!(seen.missing(), Vec::<String>::new());
-    assert_eq!(seen.count("another call"), 0);
-    let (calls, section_calls) = (seen.count("call"), seen.count("section call"));
+    seen.classes.print();
+    assert_eq!(seen.classes.missing(required()), Vec::<String>::new());
+    assert_eq!(seen.classes.count("another call"), 0);
+    let (calls, section_calls) = (
+        seen.classes.count("call"),
+        seen.classes.count("section call"),
+    );
     assert!(section_calls < calls && 100 * section_calls > 90 * calls);
-    assert_eq!(seen.count("whole list"), 90);
+    assert_eq!(seen.classes.count("whole list"), 90);
 }
 
 /// Other hundreds have the lengths too: they go round with the seed.
@@ -315,7 +302,7 @@ fn any_hundred_lists_have_every_length() {
         for name in NAMES {
             for length in (0..=189).chain([26_991]).chain(26_999..=27_009) {
                 let class = format!("{name}, {length} words, as long");
-                assert!(seen.count(&class) > 0, "{class}");
+                assert!(seen.classes.count(&class) > 0, "{class}");
             }
         }
     }
@@ -325,8 +312,11 @@ fn any_hundred_lists_have_every_length() {
 /// lists do not have them all.
 #[test]
 fn classes_can_be_missing() {
-    assert_eq!(Seen::of([]).missing().len(), required().len());
-    let missing = Seen::of(1..=4).missing();
+    assert_eq!(
+        Seen::of([]).classes.missing(required()).len(),
+        required().len()
+    );
+    let missing = Seen::of(1..=4).classes.missing(required());
     assert!(missing.len() > 100 && missing.len() < required().len());
 }
 
@@ -339,12 +329,12 @@ fn conversions_are_the_sections_with_an_output_as_long() {
     }
     let seen = Seen::of(1..=10);
     let of_both = |class: &str| -> usize {
-        let counts = NAMES.map(|name| seen.count(&format!("{name}, {class}")));
+        let counts = NAMES.map(|name| seen.classes.count(&format!("{name}, {class}")));
         counts.iter().sum()
     };
     let accepted = of_both("section, as long");
     assert_eq!(conversions.accepted, accepted as u64);
-    let refused = seen.count("section call") - accepted;
+    let refused = seen.classes.count("section call") - accepted;
     assert_eq!(conversions.refused, refused as u64);
     let longest = of_both("27000 words, as long");
     assert_eq!(conversions.longest, longest as u64);
@@ -359,18 +349,18 @@ fn classes_follow_from_the_words() {
         list.rows(out_words, words);
         let mut seen = Seen::default();
         seen.list(&list);
-        seen.counts
+        seen.classes
     };
     let mut words = vec![7; 27];
     let of_section = class_of(27, &words);
-    assert!(of_section.contains_key("rows, section, as long"));
+    assert!(of_section.has("rows, section, as long"));
     // 7, 14 and 21 are the raw positions.
-    assert!(!of_section.contains_key("rows, constant columns"));
+    assert!(!of_section.has("rows, constant columns"));
     words[1..3].fill(0);
-    assert!(class_of(27, &words).contains_key("rows, constant columns"));
-    assert!(class_of(26, &words).contains_key("rows, section, one short"));
-    assert!(class_of(27, &words[1..]).contains_key("rows, no section, one long"));
+    assert!(class_of(27, &words).has("rows, constant columns"));
+    assert!(class_of(26, &words).has("rows, section, one short"));
+    assert!(class_of(27, &words[1..]).has("rows, no section, one long"));
     words[2] = 0xffff;
-    assert!(class_of(27, &words).contains_key("rows, a raw below the one before"));
-    assert!(!class_of(36, &words).contains_key("rows, a raw below the one before"));
+    assert!(class_of(27, &words).has("rows, a raw below the one before"));
+    assert!(!class_of(36, &words).has("rows, a raw below the one before"));
 }

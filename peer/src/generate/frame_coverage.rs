@@ -1,10 +1,11 @@
 //! What the lists of frames reach, seen call by call. A call is of a class
 //! by its bytes and its buffer alone, whatever it is answered.
 
-use std::collections::{BTreeMap, BTreeSet};
+use std::collections::BTreeSet;
 use std::ops::RangeInclusive;
 
 use crate::df1::{DLE, ETX, STX};
+use crate::generate::classes::Classes;
 use crate::generate::frame_parts::{check_of, frame_of};
 use crate::generate::{frame_list, CallList};
 use crate::replay::{read_call, Call, FrameCall};
@@ -16,7 +17,7 @@ const ALLOWED: RangeInclusive<usize> = 1..=244;
 /// How many calls, frames or lists of each class were seen.
 #[derive(Default)]
 struct Seen {
-    counts: BTreeMap<String, usize>,
+    classes: Classes,
 }
 
 /// The data of an input that is correct but perhaps for their number.
@@ -81,32 +82,19 @@ impl Seen {
         seen
     }
 
-    fn see(&mut self, class: impl Into<String>) {
-        *self.counts.entry(class.into()).or_default() += 1;
-    }
-
-    fn see_if(&mut self, is_so: bool, class: &str) {
-        if is_so {
-            self.see(class);
-        }
-    }
-
-    fn count(&self, class: &str) -> usize {
-        self.counts.get(class).copied().unwrap_or(0)
-    }
-
     fn list(&mut self, list: &CallList) {
         let bytes = list.bytes();
         let mut words = Words::new(&bytes[..]);
         let mut powered = false;
         let mut inputs = BTreeSet::new();
         while let Some(call) = read_call(&mut words) {
-            self.see("call");
+            self.classes.see("call");
             match call {
                 Call::Frame(call) => {
-                    self.see("frame call");
-                    self.see_if(powered, "frame call after a power-up");
-                    self.see_if(!powered, "frame call before any power-up");
+                    self.classes.see("frame call");
+                    self.classes.see_if(powered, "frame call after a power-up");
+                    self.classes
+                        .see_if(!powered, "frame call before any power-up");
                     let bytes = call.bytes();
                     self.frame_call(&call, &bytes);
                     if call.name == "data" {
@@ -115,10 +103,10 @@ impl Seen {
                 }
                 Call::PowerUp(_) => {
                     powered = true;
-                    self.see("power-up");
+                    self.classes.see("power-up");
                 }
-                Call::Nudge(_) => self.see("nudge"),
-                _ => self.see("another call"),
+                Call::Nudge(_) => self.classes.see("nudge"),
+                _ => self.classes.see("another call"),
             }
         }
         for frame in inputs.iter().filter(|input| is_frame(input)) {
@@ -130,9 +118,9 @@ impl Seen {
 
     fn frame_call(&mut self, call: &FrameCall, bytes: &[u8]) {
         let FrameCall { name, capacity, .. } = call;
-        self.see(format!("{name} of {} bytes", bytes.len()));
+        self.classes.see(format!("{name} of {} bytes", bytes.len()));
         if [600, 65535].contains(capacity) {
-            self.see(format!("{name} into {capacity}"));
+            self.classes.see(format!("{name} into {capacity}"));
         }
         let (data, buffer) = if *name == "frame" {
             (Some(bytes.to_vec()), frame_of(bytes).len())
@@ -146,34 +134,37 @@ impl Seen {
         };
         let buffer = buffer_of(*capacity, buffer);
         match data.len() {
-            0 => self.see(format!("{name}, no data, {buffer}")),
-            245.. => self.see(format!("{name}, too many data, {buffer}")),
+            0 => self.classes.see(format!("{name}, no data, {buffer}")),
+            245.. => self.classes.see(format!("{name}, too many data, {buffer}")),
             length => {
-                self.see(format!("{name}, {buffer}"));
-                self.see(format!("{name}, {length} data"));
+                self.classes.see(format!("{name}, {buffer}"));
+                self.classes.see(format!("{name}, {length} data"));
                 let high = call.words.iter().any(|&word| word > 0xff);
-                self.see_if(high, &format!("{name}, high bytes"));
+                self.classes.see_if(high, format!("{name}, high bytes"));
                 self.see_data(name, &data);
             }
         }
         if *name == "data" && [245, 246].contains(&data.len()) {
-            self.see(format!("{name}, {} data", data.len()));
+            self.classes.see(format!("{name}, {} data", data.len()));
         }
     }
 
     fn see_data(&mut self, name: &str, data: &[u8]) {
         let check = check_of(data);
-        self.see_if(check == DLE, &format!("{name}, check DLE"));
-        self.see_if(check == 0, &format!("{name}, sum 0"));
+        self.classes
+            .see_if(check == DLE, format!("{name}, check DLE"));
+        self.classes.see_if(check == 0, format!("{name}, sum 0"));
         if data.iter().all(|&byte| byte == DLE) {
-            self.see(format!("{name}, {} DLEs", data.len()));
+            self.classes.see(format!("{name}, {} DLEs", data.len()));
         }
         for (control, text) in [(STX, "STX"), (ETX, "ETX"), (DLE, "DLE")] {
             let among = data.contains(&control);
-            self.see_if(among, &format!("{name}, {text} among the data"));
+            self.classes
+                .see_if(among, format!("{name}, {text} among the data"));
         }
         let like_an_end = data.windows(2).any(|bytes| bytes == [DLE, ETX]);
-        self.see_if(like_an_end, &format!("{name}, DLE ETX among the data"));
+        self.classes
+            .see_if(like_an_end, format!("{name}, DLE ETX among the data"));
     }
 
     /// An input that is no frame of any number of data bytes.
@@ -181,36 +172,39 @@ impl Seen {
         for place in 1..input.len() {
             let (before, after) = input.split_at(place);
             let (first, second) = (is_frame(before), is_frame(after));
-            self.see_if(first, "bytes after a frame");
-            self.see_if(second, "bytes before a frame");
-            self.see_if(first && second, "two frames");
+            self.classes.see_if(first, "bytes after a frame");
+            self.classes.see_if(second, "bytes before a frame");
+            self.classes.see_if(first && second, "two frames");
             let doubled = first && before.last() == Some(&DLE) && after == [DLE];
-            self.see_if(doubled, "check DLE doubled");
+            self.classes.see_if(doubled, "check DLE doubled");
             let beside = input.len() < 40 && (0..place).any(|start| is_frame(&input[start..place]));
-            self.see_if(beside && !first, "bytes before and after a frame");
+            self.classes
+                .see_if(beside && !first, "bytes before and after a frame");
         }
         if let [DLE, STX, body @ .., DLE, ETX, check] = input {
             match after_lone_dle(body) {
-                Some(place) if place == body.len() => self.see("lone DLE at the end"),
-                Some(place) => self.see(format!("DLE then {:02x}", body[place])),
-                None if *check == check_of(body) => self.see("DLE counted twice"),
-                None => self.see("another check"),
+                Some(place) if place == body.len() => self.classes.see("lone DLE at the end"),
+                Some(place) => self.classes.see(format!("DLE then {:02x}", body[place])),
+                None if *check == check_of(body) => self.classes.see("DLE counted twice"),
+                None => self.classes.see("another check"),
             }
         } else {
             let start = input.starts_with(&[DLE, STX]);
             let end = matches!(input, [.., DLE, ETX, _]);
-            self.see_if(start, "no end");
-            self.see_if(end, "no start");
-            self.see_if(!start && !end, "any bytes");
+            self.classes.see_if(start, "no end");
+            self.classes.see_if(end, "no start");
+            self.classes.see_if(!start && !end, "any bytes");
         }
     }
 
     /// Whether the list reads every beginning of a frame.
     fn cuts(&mut self, frame: &[u8], inputs: &BTreeSet<Vec<u8>>) {
         if (0..frame.len()).all(|length| inputs.contains(&frame[..length])) {
-            self.see("every cut of a frame");
-            self.see_if(frame.len() == 6, "every cut of the shortest");
-            self.see_if(frame.len() > 100, "every cut of a long frame");
+            self.classes.see("every cut of a frame");
+            self.classes
+                .see_if(frame.len() == 6, "every cut of the shortest");
+            self.classes
+                .see_if(frame.len() > 100, "every cut of a long frame");
         }
     }
 
@@ -223,12 +217,13 @@ impl Seen {
             }
         }
         if changes.iter().all(|&count| count == 255) {
-            self.see("every change of a frame");
+            self.classes.see("every change of a frame");
             let with_dle = data_of(frame).is_some_and(|data| data.contains(&DLE));
-            self.see_if(with_dle, "every change of a frame with a DLE");
+            self.classes
+                .see_if(with_dle, "every change of a frame with a DLE");
         }
         let everywhere = changes.iter().all(|&count| count > 0);
-        self.see_if(
+        self.classes.see_if(
             everywhere && frame.len() > 100,
             "a change at every place of a long frame",
         );
@@ -236,30 +231,17 @@ impl Seen {
 
     fn tail(&mut self, tail: &[u8]) {
         match tail {
-            [] => self.see("whole list"),
-            [_] => self.see("broken off in an opcode"),
-            [9, 0, ..] => self.see("broken off in a frame call"),
-            [10, 0, ..] => self.see("broken off in a data call"),
-            _ => self.see("broken off in another call"),
+            [] => self.classes.see("whole list"),
+            [_] => self.classes.see("broken off in an opcode"),
+            [9, 0, ..] => self.classes.see("broken off in a frame call"),
+            [10, 0, ..] => self.classes.see("broken off in a data call"),
+            _ => self.classes.see("broken off in another call"),
         }
-        self.see_if(tail.len() % 2 == 1, "broken off in a word");
+        self.classes
+            .see_if(tail.len() % 2 == 1, "broken off in a word");
         let among_bytes = tail.len() > 6;
-        self.see_if(among_bytes, "broken off among the bytes");
-    }
-
-    /// Classes that were seen less often than they must be.
-    fn missing(&self) -> Vec<String> {
-        required()
-            .into_iter()
-            .filter(|(class, least)| self.count(class) < *least)
-            .map(|(class, least)| format!("{class}: {} of {least}", self.count(&class)))
-            .collect()
-    }
-
-    fn print(&self) {
-        for (class, count) in &self.counts {
-            println!("{count:8} {class}");
-        }
+        self.classes
+            .see_if(among_bytes, "broken off among the bytes");
     }
 }
 
@@ -357,25 +339,28 @@ const SINGLE: [(&str, usize); 28] = [
 #[test]
 fn lists_of_frames_reach_every_class() {
     let seen = Seen::of(1..=500);
-    seen.print();
-    assert_eq!(seen.missing(), Vec::<String>::new());
+    seen.classes.print();
+    assert_eq!(seen.classes.missing(required()), Vec::<String>::new());
     let different_lengths = |name: &str| {
         (1..=244)
-            .filter(|length| seen.count(&format!("{name}, {length} DLEs")) > 0)
+            .filter(|length| seen.classes.count(&format!("{name}, {length} DLEs")) > 0)
             .count()
     };
     assert!(different_lengths("frame") > 50 && different_lengths("data") > 50);
-    let (calls, frame_calls) = (seen.count("call"), seen.count("frame call"));
+    let (calls, frame_calls) = (seen.classes.count("call"), seen.classes.count("frame call"));
     assert!(frame_calls < calls && 100 * frame_calls > 95 * calls);
-    assert_eq!(seen.count("another call"), 0);
+    assert_eq!(seen.classes.count("another call"), 0);
 }
 
 /// Nothing is seen by itself: without lists every class is missing, and a few
 /// lists do not have them all.
 #[test]
 fn classes_can_be_missing() {
-    assert_eq!(Seen::of([]).missing().len(), required().len());
-    let missing = Seen::of(1..=4).missing();
+    assert_eq!(
+        Seen::of([]).classes.missing(required()).len(),
+        required().len()
+    );
+    let missing = Seen::of(1..=4).classes.missing(required());
     assert!(missing.len() > 100 && missing.len() < required().len());
 }
 
@@ -389,16 +374,16 @@ fn classes_follow_from_the_bytes() {
         list.read_frame(capacity, words);
         let mut seen = Seen::default();
         seen.list(&list);
-        seen.counts
+        seen.classes
     };
-    assert!(class_of(3, &words).contains_key("data, exact buffer"));
-    assert!(class_of(2, &words).contains_key("data, buffer one short"));
+    assert!(class_of(3, &words).has("data, exact buffer"));
+    assert!(class_of(2, &words).has("data, buffer one short"));
     let mut changed = words.clone();
     changed[4] = 0x20;
-    assert!(class_of(3, &changed).contains_key("DLE then 20"));
-    assert!(!class_of(3, &changed).contains_key("data, exact buffer"));
+    assert!(class_of(3, &changed).has("DLE then 20"));
+    assert!(!class_of(3, &changed).has("data, exact buffer"));
     changed[4] = u16::from(DLE);
     changed[8] = 0xd4;
-    assert!(class_of(3, &changed).contains_key("DLE counted twice"));
-    assert!(class_of(3, &words[..8]).contains_key("no end"));
+    assert!(class_of(3, &changed).has("DLE counted twice"));
+    assert!(class_of(3, &words[..8]).has("no end"));
 }

@@ -8,6 +8,8 @@ mod byte_coverage;
 mod byte_lists;
 mod call_list;
 #[cfg(test)]
+mod classes;
+#[cfg(test)]
 mod column_coverage;
 mod column_lists;
 #[cfg(test)]

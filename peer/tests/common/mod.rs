@@ -253,3 +253,39 @@ pub fn run_program(path: &str, input: &[u8]) -> String {
     assert!(output.status.success());
     String::from_utf8(output.stdout).expect("text")
 }
+
+/// A linear congruential generator, so that runs repeat.
+pub struct Numbers(pub u64);
+
+impl Numbers {
+    pub fn next(&mut self) -> u16 {
+        self.0 = self
+            .0
+            .wrapping_mul(6_364_136_223_846_793_005)
+            .wrapping_add(1_442_695_040_888_963_407);
+        (self.0 >> 40) as u16
+    }
+
+    pub fn below(&mut self, limit: u16) -> u16 {
+        self.next() % limit
+    }
+
+    /// Mostly small, sometimes at an edge, sometimes anything.
+    pub fn word(&mut self) -> u16 {
+        match self.below(6) {
+            0 => self.next(),
+            1 => [0, 1, 999, 1023, 1024, 0x7fff, 0x8000, 0xffff][usize::from(self.below(8))],
+            2 => self.below(1024),
+            3 => 1 << self.below(16),
+            _ => self.below(8),
+        }
+    }
+
+    pub fn words(&mut self, length: usize) -> Vec<u16> {
+        (0..length).map(|_| self.next()).collect()
+    }
+
+    pub fn bytes(&mut self, length: usize) -> Vec<u8> {
+        (0..length).map(|_| self.next() as u8).collect()
+    }
+}

@@ -277,7 +277,7 @@ fn fault_sample(step: u32) -> [u16; SAMPLE_WORDS] {
 
 fn numbers(answer: &StepAnswer) -> [u32; 4] {
     let [md1, md2] = answer.detectors.map(u32::from);
-    let readings = 8 * answer.rpm + 4 * u32::from(answer.tach_overflow) + 2 * md1 + md2;
+    let readings = 8 * answer.tenths + 4 * u32::from(answer.tach_overflow) + 2 * md1 + md2;
     let refused = u32::from(answer.refusal.is_some());
     [
         u32::from(answer.machine_position.0) | u32::from(answer.tach) << 16,

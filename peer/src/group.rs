@@ -153,9 +153,9 @@ pub struct GroupSample {
     /// The Group Input and First Cycle Input are active.
     pub input: bool,
     pub first_cycle: bool,
-    /// rpm is not 0.
+    /// The tenths are not 0.
     pub turning: bool,
-    /// The step is an update with rpm 0.
+    /// The step is an update of 0 tenths.
     pub stop: bool,
 }
 

@@ -1,5 +1,5 @@
-//! Position and speed: scaled position, movement sums, rpm, tachometer,
-//! motion detectors and the shift by an advance.
+//! Position and speed: scaled position, movement sums, tenths of an rpm,
+//! tachometer, motion detectors and the shift by an advance.
 
 use crate::pair::sum;
 use crate::setup::{Detector, Scalars, Setup};
@@ -11,6 +11,8 @@ pub(crate) const ADVANCE_STEPS: u16 = 120;
 /// Steps in one ms.
 pub const STEPS_PER_MS: u32 = 5;
 const HIGHEST_TACH: u64 = 32767;
+/// Tenths in an rpm.
+pub(crate) const TENTHS: u32 = 10;
 
 /// The position that the step answers.
 #[derive(Clone, Copy, Debug, Default, PartialEq, Eq)]
@@ -44,34 +46,39 @@ fn half_up(numerator: u64, denominator: u64) -> u64 {
     (2 * numerator + denominator) / (2 * denominator)
 }
 
-/// |C| × 60000 / (1024 × W), rounded half up. W is in ms and not 0.
-pub fn rpm(movement_sum: i32, window_ms: u32) -> u32 {
+/// The speed in tenths of an rpm: |C| × 600000 / (1024 × W), rounded half up.
+/// W is in ms and not 0. The sums of a list give 1,500,000 at most; what
+/// passes 32 bits at others is u32::MAX.
+pub fn tenths(movement_sum: i32, window_ms: u32) -> u32 {
     let counts = u64::from(movement_sum.unsigned_abs());
-    half_up(
-        counts * 60000,
+    let rounded = half_up(
+        counts * 600_000,
         u64::from(TURN) * u64::from(window_ms.max(1)),
-    ) as u32
+    );
+    rounded.min(u64::from(u32::MAX)) as u32
 }
 
-/// Tachometer reading and TachOv.
-pub fn tach(rpm: u32, scalars: Scalars) -> (u16, bool) {
-    const POWERS_OF_TEN: [u64; 4] = [1, 10, 100, 1000];
+/// Tachometer reading and TachOv: tenths × multiplier / (divisor ×
+/// 10^(code + 1)), rounded half up.
+pub fn tach(tenths: u32, scalars: Scalars) -> (u16, bool) {
+    const POWERS_OF_TEN: [u64; 4] = [10, 100, 1000, 10000];
     let power = POWERS_OF_TEN[usize::from(scalars.code & 3)];
     // A setup is accepted only with a divisor from 1 to 63.
     let divisor = u64::from(scalars.divisor.max(1));
-    let exact = u64::from(rpm) * u64::from(scalars.multiplier);
+    let exact = u64::from(tenths) * u64::from(scalars.multiplier);
     let rounded = half_up(exact, divisor * power);
     (rounded.min(HIGHEST_TACH) as u16, rounded > HIGHEST_TACH)
 }
 
-pub fn detector_on(detector: Detector, rpm: u32) -> bool {
-    let (low, high) = (u32::from(detector.low), u32::from(detector.high));
+/// Tenths are compared with ten times the setpoints.
+pub fn detector_on(detector: Detector, tenths: u32) -> bool {
+    let [low, high] = [detector.low, detector.high].map(|end| TENTHS * u32::from(end));
     if low == 0 && high == 0 {
         false
     } else if low <= high {
-        low <= rpm && rpm <= high
+        low <= tenths && tenths <= high
     } else {
-        rpm <= high || rpm >= low
+        tenths <= high || tenths >= low
     }
 }
 
@@ -93,10 +100,10 @@ pub fn moved_length(length: u16, on_shift: i64, off_shift: i64) -> i64 {
     i64::from(length) + on_shift - off_shift
 }
 
-/// What is derived from rpm; it changes only with an update or a start.
+/// What is derived from the speed; it changes only with an update or a start.
 #[derive(Clone, Copy, Debug, PartialEq, Eq)]
 pub struct Reading {
-    pub rpm: u32,
+    pub tenths: u32,
     pub tach: u16,
     pub tach_overflow: bool,
     pub detectors: [bool; 2],
@@ -105,19 +112,21 @@ pub struct Reading {
 impl Reading {
     /// The reading of a step answered 11.
     pub const FAULT: Reading = Reading {
-        rpm: 0,
+        tenths: 0,
         tach: 0,
         tach_overflow: false,
         detectors: [false; 2],
     };
 
-    pub fn at(rpm: u32, setup: &Setup) -> Reading {
-        let (tach, tach_overflow) = tach(rpm, setup.scalars);
+    pub fn at(tenths: u32, setup: &Setup) -> Reading {
+        let (tach, tach_overflow) = tach(tenths, setup.scalars);
         Reading {
-            rpm,
+            tenths,
             tach,
             tach_overflow,
-            detectors: setup.detectors.map(|detector| detector_on(detector, rpm)),
+            detectors: setup
+                .detectors
+                .map(|detector| detector_on(detector, tenths)),
         }
     }
 }
@@ -184,7 +193,7 @@ impl Motion {
         changed
     }
 
-    /// Tells whether the step is a stop: an update with rpm 0.
+    /// Tells whether the step is a stop: an update of 0 tenths.
     #[inline]
     fn sum_for_speed(&mut self, moved: i32, setup: &Setup) -> bool {
         self.speed_sum += moved;
@@ -194,13 +203,13 @@ impl Motion {
             return false;
         }
         self.big_c = self.speed_sum;
-        let rpm = rpm(self.big_c, window_ms);
-        if rpm != self.reading.rpm {
-            self.reading = Reading::at(rpm, setup);
+        let tenths = tenths(self.big_c, window_ms);
+        if tenths != self.reading.tenths {
+            self.reading = Reading::at(tenths, setup);
         }
         self.speed_sum = 0;
         self.speed_steps = 0;
-        rpm == 0
+        tenths == 0
     }
 }
 

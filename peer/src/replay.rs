@@ -334,7 +334,7 @@ fn write_step(answer: &StepAnswer, line: bool, output: &mut impl Write) -> io::R
         "step {} {} {} {} {} {md1} {md2} {:04x} {:04x} {} {} {}",
         answer.refusal.map_or(0, |refusal| refusal.number()),
         answer.machine_position.0,
-        answer.rpm,
+        answer.tenths,
         answer.tach,
         u8::from(answer.tach_overflow),
         answer.real_outputs,

@@ -21,7 +21,8 @@ pub struct StepAnswer {
     /// Refusal 11, or none.
     pub refusal: Option<Refusal>,
     pub machine_position: MachinePosition,
-    pub rpm: u32,
+    /// The speed, in tenths of an rpm.
+    pub tenths: u32,
     pub tach: u16,
     pub tach_overflow: bool,
     pub detectors: [bool; 2],
@@ -116,7 +117,7 @@ impl Module {
         let view = StepView {
             machine,
             inputs,
-            turning: self.motion.reading.rpm != 0,
+            turning: self.motion.reading.tenths != 0,
             stop: updates.stop,
         };
         let lit = self.lit(&view, tests) & !self.blocked(inputs);
@@ -204,7 +205,7 @@ impl Module {
         self.last_answer = StepAnswer {
             refusal: None,
             machine_position,
-            rpm: reading.rpm,
+            tenths: reading.tenths,
             tach: reading.tach,
             tach_overflow: reading.tach_overflow,
             detectors: reading.detectors,

@@ -88,7 +88,7 @@ fn random_calls_keep_the_answers_in_range() {
             let bad = raw > 1023 || was_fault;
             assert_eq!(answer.refusal == Some(Refusal::TransducerFault), bad);
             assert!(answer.machine_position.0 < 1024);
-            assert!(answer.rpm <= 150_000 && answer.tach <= 32767);
+            assert!(answer.tenths <= 1_500_000 && answer.tach <= 32767);
             assert!(answer.changed <= 16);
             assert!(answer.tests <= if bad { 0 } else { 256 });
             let (on, off) = (words[5], words[6]);
@@ -177,7 +177,7 @@ fn sections_and_outputs_of_any_lengths() {
 #[test]
 fn leaf_functions_take_any_numbers() {
     use peer::motion::{
-        advance_shift, machine_position, moved_length, moved_setpoint, movement, rpm, tach,
+        advance_shift, machine_position, moved_length, moved_setpoint, movement, tach, tenths,
     };
     use peer::pair::{pair_holds, Pair};
     use peer::pulse::{pulse_holds, pulse_start, pulses_fit, pulses_touch};
@@ -207,6 +207,6 @@ fn leaf_functions_take_any_numbers() {
             pulses_touch(a, b, a, b);
             moved_setpoint(a, i64::MIN, b);
         }
-        rpm(i32::MIN, u32::from(a));
+        tenths(i32::MIN, u32::from(a));
     }
 }

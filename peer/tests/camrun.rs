@@ -200,7 +200,8 @@ fn setup_section_acts_though_the_next_is_short() {
 
 #[test]
 fn tach_is_printed_in_decimal() {
-    // TResp 1, 599 movements of 2 counts: 1198 counts in 120 ms, 585 rpm.
+    // TResp 1, 599 movements of 2 counts: 1198 counts in 120 ms, 5850
+    // tenths; times 3, by 10, that is 1755.
     let setup = setup_file(&[command(0x20 | INDEPENDENT), (8, 3)]);
     let samples: Vec<[u16; 9]> = (0..600u16)
         .map(|step| [step * 2 % 1024, 0, 0, 0, 0, 0, 0, 0, 0])

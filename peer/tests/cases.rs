@@ -1,9 +1,9 @@
-//! The lettered cases of document 01.
+//! The lettered cases of document 01, a and b as document 02 has them.
 
 mod common;
 
 use common::{limit_file, one_group, Card, INDEPENDENT, PULSE};
-use peer::motion::{advance_shift, moved_setpoint, rpm, tach};
+use peer::motion::{advance_shift, moved_setpoint, tach, tenths};
 use peer::pair::{pair_holds, Pair};
 use peer::pulse::pulse_holds;
 use peer::setup::Scalars;
@@ -17,7 +17,8 @@ fn a_tach_for_codes_0_to_3() {
             divisor: 3,
             code,
         };
-        tach(100, scalars)
+        // 100 rpm.
+        tach(1000, scalars)
     };
     assert_eq!(
         [0, 1, 2, 3].map(reading),
@@ -26,10 +27,11 @@ fn a_tach_for_codes_0_to_3() {
 }
 
 #[test]
-fn b_rpm_of_one_turn_in_each_window() {
-    assert_eq!(rpm(1024, 120), 500);
-    assert_eq!(rpm(1024, 504), 119);
-    assert_eq!(rpm(-1024, 120), 500);
+fn b_tenths_of_one_turn_in_each_window() {
+    assert_eq!(tenths(1024, 120), 5000);
+    assert_eq!(tenths(1024, 504), 1190);
+    assert_eq!(tenths(-1024, 120), 5000);
+    assert_eq!(tenths(-1024, 504), 1190);
 }
 
 #[test]

@@ -263,12 +263,12 @@ fn r2f_beginning_then_qualifying_then_stop_then_edge() {
 }
 
 #[test]
-fn p27_standing_in_the_dwell_stays_closed_until_rpm() {
+fn p27_standing_in_the_dwell_stays_closed_until_it_turns() {
     let mut gluer = Gluer::new();
     assert!(!gluer.step(120, INPUT));
     assert!(!gluer.step(120, INPUT | STOP));
     assert!(!gluer.step(120, INPUT));
-    // An update brings rpm while still in the dwell.
+    // An update brings tenths while still in the dwell.
     assert!(gluer.step(121, INPUT | TURNING));
 }
 

@@ -7,7 +7,7 @@ use common::{
     command, one_group, sample, setup_file, Card, ALWAYS, CDIR, INDEPENDENT, MD1, NUDGE_CLEAR,
     SLCINT, TRANSMIT, TRESP,
 };
-use peer::motion::{direction_count, movement, rpm, scaled_position, tach};
+use peer::motion::{direction_count, movement, scaled_position, tach};
 use peer::setup::Scalars;
 use peer::{Answer, Refusal};
 
@@ -111,50 +111,30 @@ fn p8_group_and_limit_cycles_restart_no_window() {
     assert_eq!(card.groups(&[]), Answer::Accepted);
     assert_eq!(card.limits(&[]), Answer::Accepted);
     card.turn(300, 0, 299);
-    // 599 counts in 120 ms.
+    // 599 counts in 120 ms: 2924.8 tenths; 292.5 is rounded up.
     let answer = card.step(599);
-    assert_eq!((answer.rpm, answer.tach), (292, 292));
+    assert_eq!((answer.tenths, answer.tach), (2925, 293));
 }
 
 #[test]
 fn p9_updates_count_in_their_own_step() {
-    // MD1 from 100 to 400 rpm; 599 counts in 120 ms are 292 rpm.
+    // MD1 from 100 to 400 rpm; 599 counts in 120 ms are 292.5 rpm.
     let mut card = Card::set_up(&[command(TRESP | INDEPENDENT), (4, 100), (5, 400)])
         .and_limits(&[(17, &[MD1, 0, 0, 0, 512, 512, 0])]);
     card.turn(0, 0, 598);
     let before = card.step(598);
-    assert_eq!((before.rpm, before.detectors[0]), (0, false));
+    assert_eq!((before.tenths, before.detectors[0]), (0, false));
     assert_eq!(before.virtual_outputs, 0);
     let update = card.step(599);
-    assert_eq!((update.rpm, update.detectors[0]), (292, true));
+    assert_eq!((update.tenths, update.detectors[0]), (2925, true));
     assert_eq!(update.virtual_outputs, 1);
 }
 
 #[test]
-fn p10_creeping_is_a_stop() {
-    assert_eq!(rpm(1, 120), 0);
-    assert_eq!(rpm(2, 120), 1);
-    assert_eq!(rpm(4, 504), 0);
-    assert_eq!(rpm(5, 504), 1);
-    let mut card = Card::set_up(&[command(TRESP)])
-        .and_groups(&[[common::virtual_group(5, 1), 0, 500, 0]])
-        .and_limits(&[(17, &ALWAYS)]);
-    // 100 counts in the first window: 49 rpm at step 600, in the dwell.
-    card.turn(0, 1, 101);
-    card.stand(100, 1, 498);
-    assert!(card.lit(100, 1));
-    // One count in the second window: 0.488 rpm.
-    card.stand(101, 0, 598);
-    assert!(card.lit(101, 0));
-    let stop = card.step(101);
-    assert_eq!((stop.rpm, stop.virtual_outputs), (0, 0));
-}
-
-#[test]
 fn p11_rounded_tach_is_compared() {
-    let scaled = |rpm, multiplier, divisor, code| {
+    let scaled = |tenths, multiplier, divisor, code| {
         tach(
-            rpm,
+            tenths,
             Scalars {
                 multiplier,
                 divisor,
@@ -163,29 +143,34 @@ fn p11_rounded_tach_is_compared() {
         )
     };
     // 369 × 888 is 327672, 1285 × 255 is 327675.
-    assert_eq!(scaled(369, 888, 1, 1), (32767, false));
-    assert_eq!(scaled(1285, 255, 1, 1), (32767, true));
-    assert_eq!(scaled(32767, 1, 1, 0), (32767, false));
-    assert_eq!(scaled(32768, 1, 1, 0), (32767, true));
-    assert_eq!(scaled(150_000, 1100, 1, 0), (32767, true));
-    assert_eq!(scaled(150_000, 1100, 63, 3), (2619, false));
+    assert_eq!(scaled(369, 888, 1, 0), (32767, false));
+    assert_eq!(scaled(3690, 888, 1, 1), (32767, false));
+    assert_eq!(scaled(1285, 255, 1, 0), (32767, true));
+    assert_eq!(scaled(12850, 255, 1, 1), (32767, true));
+    assert_eq!(scaled(327_670, 1, 1, 0), (32767, false));
+    assert_eq!(scaled(327_674, 1, 1, 0), (32767, false));
+    assert_eq!(scaled(327_675, 1, 1, 0), (32767, true));
+    assert_eq!(scaled(1_500_000, 1100, 1, 0), (32767, true));
+    assert_eq!(scaled(1_500_000, 1100, 63, 3), (2619, false));
     // 0.5 rounds up, below it down.
-    assert_eq!(scaled(1, 1, 2, 0), (1, false));
-    assert_eq!(scaled(1, 31, 63, 0), (0, false));
-    assert_eq!(scaled(500, 0, 63, 3), (0, false));
+    assert_eq!(scaled(5, 1, 1, 0), (1, false));
+    assert_eq!(scaled(10, 1, 2, 0), (1, false));
+    assert_eq!(scaled(4, 1, 1, 0), (0, false));
+    assert_eq!(scaled(10, 31, 63, 0), (0, false));
+    assert_eq!(scaled(5000, 0, 63, 3), (0, false));
 }
 
 #[test]
-fn p12_rpm_has_no_ceiling() {
+fn p12_speed_has_no_ceiling() {
     let mut card = Card::fresh(8511);
     let mut answers = Vec::new();
     for step in 0..5040u32 {
-        answers.push(card.step((step * 511 % 1024) as u16).rpm);
+        answers.push(card.step((step * 511 % 1024) as u16).tenths);
     }
     assert_eq!(answers[2518], 0);
-    assert_eq!(answers[2519], 149_648);
-    assert_eq!(answers[5038], 149_648);
-    assert_eq!(answers[5039], 149_707);
+    assert_eq!(answers[2519], 1_496_476);
+    assert_eq!(answers[5038], 1_496_476);
+    assert_eq!(answers[5039], 1_497_070);
 }
 
 #[test]
@@ -199,17 +184,18 @@ fn p13_detectors_before_the_first_update() {
 
 #[test]
 fn p13_detector_limits_are_included() {
-    let on = |low, high, rpm| peer::motion::detector_on(peer::setup::Detector { low, high }, rpm);
+    let on =
+        |low, high, tenths| peer::motion::detector_on(peer::setup::Detector { low, high }, tenths);
     assert_eq!(
-        [49, 50, 60, 61].map(|rpm| on(50, 60, rpm)),
+        [499, 500, 600, 601].map(|tenths| on(50, 60, tenths)),
         [false, true, true, false]
     );
     assert_eq!(
-        [50, 51, 59, 60].map(|rpm| on(60, 50, rpm)),
+        [500, 501, 599, 600].map(|tenths| on(60, 50, tenths)),
         [true, false, false, true]
     );
     assert!(!on(0, 0, 0));
-    assert!(on(1, 0, 150_000));
+    assert!(on(1, 0, 1_500_000));
 }
 
 #[test]
@@ -221,22 +207,22 @@ fn p96_half_a_turn_is_backward() {
     assert_eq!(movement(1023, 0), -1);
 }
 
-/// The rpm that a fresh card answers at the end of its first and its second
+/// The tenths that a fresh card answers at the end of its first and its second
 /// window, where each step is so many counts on from the one before.
 fn two_windows(by: u32) -> [u32; 2] {
     let mut card = Card::fresh(8513);
-    let rpm: Vec<u32> = (0..5040)
-        .map(|step| card.step((step * by % 1024) as u16).rpm)
+    let tenths: Vec<u32> = (0..5040)
+        .map(|step| card.step((step * by % 1024) as u16).tenths)
         .collect();
-    [rpm[2519], rpm[5039]]
+    [tenths[2519], tenths[5039]]
 }
 
 #[test]
 fn r4a_the_ends_of_c_come_with_the_second_window() {
     // C is −1,289,728, then −1,290,240.
-    assert_eq!(two_windows(512), [149_940, 150_000]);
+    assert_eq!(two_windows(512), [1_499_405, 1_500_000]);
     // C is 1,287,209, then 1,287,720.
-    assert_eq!(two_windows(511), [149_648, 149_707]);
+    assert_eq!(two_windows(511), [1_496_476, 1_497_070]);
 }
 
 #[test]
@@ -282,11 +268,11 @@ fn speed_window_of_504_ms() {
     let mut card = Card::set_up(&[(8, 7), (9, 2), (10, 0)]);
     card.turn(0, 0, 2519);
     let answer = card.step((2519 % 1024) as u16);
-    // 2519 counts in 504 ms: 292.85 rpm; 293 × 7 / 2 is 1025.5.
-    assert_eq!((answer.rpm, answer.tach), (293, 1026));
+    // 2519 counts in 504 ms: 2928.5 tenths; 2929 × 7 / 20 is 1025.15.
+    assert_eq!((answer.tenths, answer.tach), (2929, 1025));
     // Held until the next window ends.
     card.stand(471, 0, 2519);
-    assert_eq!(card.step(471).rpm, 0);
+    assert_eq!(card.step(471).tenths, 0);
 }
 
 #[test]

@@ -306,7 +306,7 @@ fn detectors_anded() {
     ]);
     assert_eq!(card.step(0).virtual_outputs, 1);
     card.turn(1, 0, 598);
-    // 599 counts: 292 rpm.
+    // 599 counts: 292.5 rpm.
     assert_eq!(card.step(599).virtual_outputs, 2);
 }
 

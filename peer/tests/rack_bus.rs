@@ -86,7 +86,8 @@ fn words_stand_low_byte_first() {
     );
 }
 
-/// One count a step is 599 counts in the first 120 ms, 292.48 rpm.
+/// One count a step is 599 counts in the first 120 ms, 292.5 rpm; three times
+/// that is 877.5.
 #[test]
 fn readings_of_a_turning_machine() {
     let turned = |multiplier, counts: u32, steps: u32| {
@@ -97,7 +98,7 @@ fn readings_of_a_turning_machine() {
         }
         card.words()
     };
-    assert_eq!(turned(3, 1, 600)[..3], [MD1, 599, 876]);
+    assert_eq!(turned(3, 1, 600)[..3], [MD1, 599, 878]);
     assert_eq!(turned(1100, 1, 600)[..3], [MD1 | TACH_OV, 599, 32767]);
     // Half a turn a step is over 30000 rpm, which the second detector has.
     assert_eq!(turned(0, 512, 600)[..3], [MD2, 512, 0]);
@@ -365,7 +366,7 @@ fn r1h_inputs_are_shown_unsettled() {
     }
 }
 
-/// 292 rpm: the tachometer overflows, both detectors are on.
+/// 292.5 rpm: the tachometer overflows, both detectors are on.
 #[test]
 fn r1i_words_after_a_step_answered_11() {
     let words = [(4, 1), (5, 30000), (6, 2), (7, 30000), (8, 1100)];

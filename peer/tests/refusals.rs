@@ -401,12 +401,15 @@ fn r11_before_any_good_step_reports_0() {
 
 #[test]
 fn r11_readings_are_0() {
-    // MD1 0 to 100 and MD2 not between 5 and 20000: both on at rpm 0.
+    // MD1 0 to 100 and MD2 not between 5 and 20000: both on at 0 rpm.
     let mut card = Card::set_up(&[(4, 0), (5, 100), (6, 20000), (7, 5)]);
     assert_eq!(card.step(0).detectors, [true, true]);
     let fault = card.step(1024);
     assert_eq!(fault.detectors, [false, false]);
-    assert_eq!((fault.rpm, fault.tach, fault.tach_overflow), (0, 0, false));
+    assert_eq!(
+        (fault.tenths, fault.tach, fault.tach_overflow),
+        (0, 0, false)
+    );
 }
 
 #[test]

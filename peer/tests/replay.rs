@@ -256,7 +256,7 @@ fn limit_and_nudge_lines() {
 
 #[test]
 fn step_line_has_all_readings() {
-    // 511 counts a step: 149648 rpm after 2520 steps; both detectors above
+    // 511 counts a step: 1496476 tenths after 2520 steps; both detectors above
     // 30000 rpm.
     let list = (0..2520u32).fold(
         calls()
@@ -268,7 +268,7 @@ fn step_line_has_all_readings() {
     // 2519 × 511 mod 1024 is 41.
     assert_eq!(
         text.lines().last(),
-        Some("step 0 41 149648 32767 1 1 1 0000 8000 0 0 0")
+        Some("step 0 41 1496476 32767 1 1 1 0000 8000 0 0 0")
     );
 }
 

@@ -107,7 +107,7 @@ impl Seen {
         let before = module.groups.clone();
         let answer = module.step(sample);
         self.readings(module, &answer);
-        let stop = self.clock.is_update(module, &answer) && answer.rpm == 0;
+        let stop = self.clock.is_update(module, &answer) && answer.tenths == 0;
         if answer.refusal.is_some() {
             return;
         }
@@ -131,7 +131,7 @@ impl Seen {
         );
         self.see_if(answer.tach_overflow, "TachOv");
         self.see_if(answer.detectors == [true; 2], "both detectors");
-        self.see_if(answer.rpm > 65535, "rpm over 16 bits");
+        self.see_if(answer.tenths >> 20 != 0, "tenths over 20 bits");
         self.see_if(module.motion.c > 0, "forward");
         self.see_if(module.motion.c < 0, "backward");
         self.see(format!("SF {}", module.setup.scale));
@@ -215,7 +215,7 @@ const STEP_EVENTS: [&str; 18] = [
     "changed count",
     "TachOv",
     "both detectors",
-    "rpm over 16 bits",
+    "tenths over 20 bits",
     "forward",
     "backward",
     "stop",

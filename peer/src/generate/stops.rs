@@ -58,9 +58,9 @@ pub(crate) struct SeenStep<'a> {
 }
 
 impl<'a> SeenStep<'a> {
-    /// An update with rpm 0.
+    /// An update of 0 tenths.
     pub fn is_stop(&self) -> bool {
-        self.update && self.answer.rpm == 0
+        self.update && self.answer.tenths == 0
     }
 
     /// The used groups, before and after.

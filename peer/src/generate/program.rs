@@ -71,7 +71,8 @@ impl Program {
     /// Counts a step at which the tachometer is a third of a count below
     /// TachOv, if the scalars are made for that.
     pub fn edge_speed(&self) -> Option<u16> {
-        (self.m0[8] == EDGE_MULTIPLIER).then(|| self.m0[9] / EDGE_DIVISOR)
+        let is_edge = |edge: &&Edge| self.m0[8..11] == edge.scalars();
+        EDGES.iter().find(is_edge).map(|edge| edge.counts)
     }
 
     pub fn active_states(&self) -> u16 {
@@ -347,14 +348,43 @@ fn draw_detector(numbers: &mut Numbers) -> [u16; 2] {
     }
 }
 
-/// One count a step is 293 rpm; times 671, by 6, that is 32767.17.
-const EDGE_MULTIPLIER: u16 = 671;
-const EDGE_DIVISOR: u16 = 6;
+/// Scalars with which the tachometer reads 32767 at so many counts a step, from
+/// a quotient above that.
+#[derive(Clone, Copy)]
+struct Edge {
+    counts: u16,
+    multiplier: u16,
+    divisor: u16,
+}
+
+impl Edge {
+    const fn of(counts: u16, multiplier: u16, divisor: u16) -> Edge {
+        Edge {
+            counts,
+            multiplier,
+            divisor,
+        }
+    }
+
+    /// With decimal code 0.
+    fn scalars(&self) -> [u16; 3] {
+        [self.multiplier, self.divisor, 0]
+    }
+}
+
+/// One count a step is 2929.69 tenths, so 2930; times 671, by 60, that is
+/// 32767.17.
+const EDGES: [Edge; 4] = [
+    Edge::of(1, 671, 6),
+    Edge::of(6, 727, 39),
+    Edge::of(7, 719, 45),
+    Edge::of(8, 713, 51),
+];
 
 /// Tachometer multiplier, divisor and decimal code.
 fn draw_scalars(numbers: &mut Numbers) -> [u16; 3] {
     if numbers.one_in(8) {
-        return [EDGE_MULTIPLIER, EDGE_DIVISOR * numbers.between(1, 8), 0];
+        return numbers.pick(&EDGES).scalars();
     }
     [
         numbers.pick(&[0, 1, 1, 2, 3, 10, 100, 1000, 1099, 1100]),
@@ -482,4 +512,21 @@ fn draw_pulses(numbers: &mut Numbers, length: u16) -> [u16; 2] {
         _ => numbers.between(1, widest),
     };
     [quantity, on_count]
+}
+
+#[cfg(test)]
+mod tests {
+    use super::*;
+
+    /// 600 counts in 120 ms are 2929.6875 tenths.
+    #[test]
+    fn edges_read_32767_without_overflow() {
+        for (edge, tenths) in EDGES.iter().zip([2930, 17578, 20508, 23438]) {
+            let exact = 29_296_875 * u64::from(edge.counts);
+            assert_eq!(tenths, (exact + 5000) / 10_000);
+            let product = tenths * u64::from(edge.multiplier);
+            let divisor = 10 * u64::from(edge.divisor);
+            assert!(32767 * divisor < product && 2 * product < 65535 * divisor);
+        }
+    }
 }

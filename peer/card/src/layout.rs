@@ -49,7 +49,7 @@ plain_structs! {
     }
     struct Last { stepped: bool, at: u16, }
     struct Window { steps: u16, sum: u32, }
-    struct Speed { last: Last, shortwindow: Window, longwindow: Window, c: u32, rpm: u32, }
+    struct Speed { last: Last, shortwindow: Window, longwindow: Window, c: u32, tenths: u32, }
     struct GroupState {
         level: bool, first: bool, held: bool, shift: u16,
         taken: bool, begun: bool, qualified: bool, opened: bool,
@@ -71,7 +71,7 @@ plain_structs! {
         realon: u16, realoff: u16, virtualon: u16, virtualoff: u16,
     }
     struct Answer {
-        refused: bool, position: u16, rpm: u32, tach: u16, overflow: bool,
+        refused: bool, position: u16, tenths: u32, tach: u16, overflow: bool,
         md1: bool, md2: bool, real: u16, virtuals: u16, changed: u16, tests: u16,
     }
     struct Byte { number: u16, value: u8, }

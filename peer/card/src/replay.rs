@@ -208,7 +208,7 @@ fn write_step(a: &Answer, line: bool, output: &mut impl Write) -> io::Result<()>
         "step {} {} {} {} {} {} {} {:04x} {:04x} {} {} {}",
         if a.refused { 11 } else { 0 },
         a.position,
-        a.rpm,
+        a.tenths,
         a.tach,
         u8::from(a.overflow),
         u8::from(a.md1),

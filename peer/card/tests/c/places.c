@@ -100,7 +100,7 @@ int main(void) {
     FIELD(chimneyrye_speed, shortwindow);
     FIELD(chimneyrye_speed, longwindow);
     FIELD(chimneyrye_speed, c);
-    FIELD(chimneyrye_speed, rpm);
+    FIELD(chimneyrye_speed, tenths);
     puts("");
     printf("group_state %zu", sizeof(chimneyrye_group_state));
     FIELD(chimneyrye_group_state, level);
@@ -162,7 +162,7 @@ int main(void) {
     printf("answer %zu", sizeof(chimneyrye_answer));
     FIELD(chimneyrye_answer, refused);
     FIELD(chimneyrye_answer, position);
-    FIELD(chimneyrye_answer, rpm);
+    FIELD(chimneyrye_answer, tenths);
     FIELD(chimneyrye_answer, tach);
     FIELD(chimneyrye_answer, overflow);
     FIELD(chimneyrye_answer, md1);

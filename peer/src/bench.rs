@@ -282,7 +282,7 @@ fn numbers(answer: &StepAnswer) -> [u32; 4] {
     [
         u32::from(answer.machine_position.0) | u32::from(answer.tach) << 16,
         u32::from(answer.real_outputs) | u32::from(answer.virtual_outputs) << 16,
-        readings | answer.changed << 21 | refused << 26,
+        readings | answer.changed << 24 | refused << 29,
         u32::from(answer.tests),
     ]
 }

@@ -239,11 +239,11 @@ fn checksum_from(sum: u64, steps: &[Vec<String>]) -> u64 {
         let decimal = |field: usize| -> u64 { fields[field].parse().expect("decimal") };
         let hex = |field: usize| u64::from_str_radix(&fields[field], 16).expect("hexadecimal");
         let flags = 4 * decimal(5) + 2 * decimal(6) + decimal(7);
-        let refused = if decimal(1) == 11 { 67_108_864 } else { 0 };
+        let refused = if decimal(1) == 11 { 536_870_912 } else { 0 };
         [
             decimal(2) + 65536 * decimal(4),
             hex(8) + 65536 * hex(9),
-            8 * decimal(3) + flags + 2_097_152 * decimal(10) + refused,
+            8 * decimal(3) + flags + 16_777_216 * decimal(10) + refused,
             decimal(12),
         ]
         .iter()
@@ -436,11 +436,14 @@ fn each_turn_of_case_p_is_accepted_and_ended() {
 }
 
 /// By hand: without a turn one step is made with the sample of step 0, at
-/// Machine Position 10, and rpm, tach and detectors are 0.
+/// Machine Position 10, and tenths, tach and detectors are 0.
 #[test]
 fn cases_f_and_p_by_hand() {
-    // 11 stands alone: three numbers of 0, and 2^26 in the third place of four.
-    assert_eq!(bench("f", 1), format!("f 1 {}\n", 31 * 67_108_864u64));
+    // 11 stands alone: three numbers of 0, and 2^29 in the third place of four.
+    assert_eq!(
+        bench("f", 1),
+        format!("f 1 {}\n", 31 * 536_870_912u64 % 4_294_967_296)
+    );
     let step = &lines_of_cycles(0)[5];
     assert_eq!(step[..5], ["step", "0", "10", "0", "0"]);
 }

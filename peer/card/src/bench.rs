@@ -30,14 +30,14 @@ impl Card for Module {
 }
 
 fn numbers(answer: &Answer) -> [u32; 4] {
-    let readings = 8 * answer.rpm
+    let readings = 8 * answer.tenths
         + 4 * u32::from(answer.overflow)
         + 2 * u32::from(answer.md1)
         + u32::from(answer.md2);
     [
         u32::from(answer.position) + 65536 * u32::from(answer.tach),
         u32::from(answer.real) + 65536 * u32::from(answer.virtuals),
-        readings + 2097152 * u32::from(answer.changed) + 67108864 * u32::from(answer.refused),
+        readings + 16777216 * u32::from(answer.changed) + 536870912 * u32::from(answer.refused),
         u32::from(answer.tests),
     ]
 }

@@ -1,4 +1,4 @@
-"""Tests of tools/timing.py and of what it reads and works out. Expected values come from document 01 and the manual.
+"""Tests of tools/timing.py and of what it reads and works out. Expected values come from documents 01 and 02 and the manual.
 
     python3 -m unittest discover -s tests
 """
@@ -121,13 +121,21 @@ class Fit(unittest.TestCase):
 
 class Openness(unittest.TestCase):
     def test_speed(self):
-        """Case b of document 01, in the second window: C is 1024."""
-        for window_ms, rpm in ((120, 500), (504, 119)):
+        """Case b of document 01, as document 02 has it, in the second window: C is 1024."""
+        for window_ms, tenths in ((120, 5000), (504, 1190)):
             card, steps = Card(16, window_ms=window_ms), window_ms * 5
             samples = [sample(k * 1024 // steps % 1024) for k in range(2 * steps)]
-            self.assertEqual(list(speeds(card, samples))[-1], (rpm, False))
+            self.assertEqual(list(speeds(card, samples))[-1], (tenths, False))
         stops = [k for k, (_, stop) in enumerate(speeds(Card(16), [sample(7)] * 6000)) if stop]
         self.assertEqual(stops, [2519, 5039])
+
+    def test_a_creep_is_no_stop(self):
+        """One count in the second window, either way: 5 tenths in 120 ms and 1 in 504; then the machine stands."""
+        for window_ms, tenths in ((120, 5), (504, 1)):
+            card, steps = Card(16, window_ms=window_ms), window_ms * 5
+            for to in (8, 6):
+                told = list(speeds(card, [sample(7)] * steps + [sample(to)] * (2 * steps)))
+                self.assertEqual(told[steps - 1 :: steps], [(0, True), (tenths, False), (0, True)])
 
     def test_modes_0_and_1_are_always_open(self):
         samples = [sample(0), sample(1, bits(1)), sample(2)]
@@ -174,7 +182,7 @@ class Openness(unittest.TestCase):
     def test_mode_5(self):
         """Two counts a step, the input active until the machine stands from step 1100 on; updates are the steps 599, 1199 and so on.
 
-        The dwells at 0 and 512 come before the first rpm. The stop at 1799 closes, First Cycle opens at 1850, the stop at 2399 closes,
+        The dwells at 0 and 512 come before the first update. The stop at 1799 closes, First Cycle opens at 1850, the stop at 2399 closes,
         and the edge at 2999 is in the step of a stop and opens.
         """
         samples = []
@@ -183,13 +191,18 @@ class Openness(unittest.TestCase):
             samples.append(sample(2 * min(k, 1100) % 1024, first_cycle | (bits(1) if k < 1100 else 0)))
         self.assertEqual(open_steps(group(5, 1, dwell=(0, 100)), samples, RESPONSE_120_MS), [(1024, 1799), (1850, 2399), (2999, 3100)])
 
+    def test_mode_5_in_a_creep(self):
+        """One count back with the input active qualifies at step 1199, one more without it is no stop; the machine stands from then on."""
+        samples = [sample(50 - min(k // 600, 2), bits(1) if k < 1200 else 0) for k in range(2401)]
+        self.assertEqual(open_steps(group(5, 1, dwell=(0, 100)), samples, RESPONSE_120_MS), [(1199, 2399)])
+
     def test_mode_5_forgets_at_a_dwell(self):
         """A First Cycle edge opens only where a qualifying step came since the latest dwell began."""
         run = GroupRun(deal_groups(groups(group(5, 1, dwell=(0, 50))))[0], 1024)
         first_cycle = bits(8)
         told = []
         for machine, active in ((10, bits(1)), (60, 0), (0, 0), (60, first_cycle), (10, first_cycle), (20, first_cycle | bits(1))):
-            run.step(machine, active, 100, False)
+            run.step(machine, active, 1000, False)
             told.append(run.open)
         self.assertEqual(told, [True, True, False, False, False, True])
 

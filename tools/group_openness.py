@@ -1,4 +1,4 @@
-"""When each group's dwell holds and when the group is open: document 01's rules of groups, over a trace and its report.
+"""When each group's dwell holds and when the group is open: document 01's rules of groups as 02 amends them, over a trace and its report.
 
 The report does not show it. Machine Position is the report's; inputs, and the speed that Mode 5 asks for, come from the trace.
 """
@@ -6,8 +6,8 @@ from trace_reader import STEPS_PER_MS, TURN, active_inputs, first_fault, turned
 
 
 def speeds(card, samples):
-    """rpm at each step, and whether the step is a stop: an update with rpm 0."""
-    travel = rpm = 0
+    """Tenths of an rpm at each step, and whether the step is a stop: an update of 0 tenths."""
+    travel = tenths = 0
     last = None
     for number, sample in enumerate(samples, 1):
         q = turned(card, sample[0])
@@ -16,9 +16,9 @@ def speeds(card, samples):
         update = number % (card.window_ms * STEPS_PER_MS) == 0
         if update:
             window = TURN * card.window_ms
-            rpm = (2 * abs(travel) * 60000 + window) // (2 * window)  # rounded half up
+            tenths = (2 * abs(travel) * 600000 + window) // (2 * window)  # rounded half up
             travel = 0
-        yield rpm, update and rpm == 0
+        yield tenths, update and tenths == 0
 
 
 class GroupRun:
@@ -36,7 +36,7 @@ class GroupRun:
         group = self.group
         return (position - group.on) % self.scale < (group.off - group.on) % self.scale
 
-    def step(self, machine, active, rpm, stop):
+    def step(self, machine, active, tenths, stop):
         group = self.group
         shift = self.shift if group.mode in (1, 2) else group.offset
         holds = self.dwell_holds(machine + shift)
@@ -54,7 +54,7 @@ class GroupRun:
         elif group.mode == 4:
             self.open = (self.open and not begins) or (edge and holds)
         elif group.mode == 5:
-            self.mode_5(begins, holds and level and rpm != 0, stop, first_edge)
+            self.mode_5(begins, holds and level and tenths != 0, stop, first_edge)
 
     def preset_modes(self, machine, begins, edge):
         """A dwell's beginning arms, and closes Mode 2; a taken edge presets the position and opens. Closing comes first."""
@@ -83,7 +83,7 @@ def group_course(card, group, trace, rows):
     sound = trace.samples[:fault]
     run = GroupRun(group, card.scale)
     course = []
-    for sample, row, (rpm, stop) in zip(sound, rows, speeds(card, sound)):
-        run.step(row.position, active_inputs(card, sample), rpm, stop)
+    for sample, row, (tenths, stop) in zip(sound, rows, speeds(card, sound)):
+        run.step(row.position, active_inputs(card, sample), tenths, stop)
         course.append((run.in_dwell, run.open))
     return course + [(False, False)] * (len(trace.samples) - fault)

@@ -226,7 +226,7 @@ class Drawing:
             x += 100
         if self.stops:
             picture.triangle(x + 4, y + 3, FAULT)
-            picture.text(x + 14, y + 10, "stop: an update with rpm 0", 11, GREY)
+            picture.text(x + 14, y + 10, "stop: an update of 0 tenths", 11, GREY)
         told = "Position, tachometer and outputs are the report's, inputs the trace's."
         told += " Dwells and open stretches are worked out from both by the card's rules." if self.open_groups else ""
         y += 20 if x > LEFT else 0

@@ -77,6 +77,17 @@ impl Ladder {
         }
     }
 
+    /// A raw position over 1023, a few steps in fault, then ClrErr.
+    pub fn fault(&mut self, samples: &mut Samples) {
+        let mut sample = samples.next(&mut self.numbers, &self.program);
+        sample[0] |= 1 << self.numbers.between(10, 15);
+        self.step(&sample);
+        let length = self.numbers.below(4);
+        self.run(samples, length);
+        self.clear_errors();
+        samples.module_start();
+    }
+
     fn call_file(&mut self, kind: FileKind, file: &[u16]) {
         self.list.file(kind.opcode(), file);
         self.access_bytes();

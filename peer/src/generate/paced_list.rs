@@ -111,21 +111,9 @@ impl Run {
                 self.ladder.keeping_setup();
                 self.samples.module_start();
             }
-            6 => self.fault(),
+            6 => self.ladder.fault(&mut self.samples),
             _ => {}
         }
-    }
-
-    /// A raw position over 1023, a few steps in fault, then ClrErr.
-    fn fault(&mut self) {
-        let ladder = &mut self.ladder;
-        let mut sample = self.samples.next(&mut ladder.numbers, &ladder.program);
-        sample[0] |= 1 << ladder.numbers.between(10, 15);
-        ladder.step(&sample);
-        let length = ladder.numbers.below(4);
-        ladder.run(&mut self.samples, length);
-        ladder.clear_errors();
-        self.samples.module_start();
     }
 }
 

@@ -2,61 +2,15 @@
 //! and the lines of the others: the line, the bytes of the input table, and
 //! that accesses are no event for anything else.
 
+mod common;
+
+use common::{answers, calls};
 use peer::generate::{byte_list, cycle_list, step_list, CallList};
-use peer::replay;
 
 fn lists() -> impl Iterator<Item = CallList> {
     let bytes = (1..=80).map(byte_list);
     let steps = (1..=10).map(|seed| step_list(seed, 3000));
     bytes.chain(steps).chain((1..=80).map(cycle_list))
-}
-
-/// Words of the call that a list begins with.
-fn call_length(words: &[u16]) -> Option<usize> {
-    let count = |place: usize| words.get(place).copied().map(usize::from);
-    Some(match words.first()? {
-        0 | 4 | 7 => 2,
-        1..=3 => 2 + count(1)?,
-        5 => 10,
-        6 => {
-            let m0 = count(3)?;
-            5 + m0 + count(4 + m0)?
-        }
-        8 => 3,
-        _ => return None,
-    })
-}
-
-/// The whole calls of a list.
-fn calls(list: &CallList) -> Vec<Vec<u16>> {
-    let bytes = list.bytes();
-    let (pairs, _) = bytes.as_chunks();
-    let words: Vec<u16> = pairs.iter().map(|&pair| u16::from_le_bytes(pair)).collect();
-    let mut rest = &words[..];
-    let mut calls = vec![];
-    while let Some((call, others)) = call_length(rest).and_then(|n| rest.split_at_checked(n)) {
-        calls.push(call.to_vec());
-        rest = others;
-    }
-    calls
-}
-
-/// The lines of the replay program for calls, each in its fields.
-fn answers(calls: &[Vec<u16>]) -> Vec<Vec<String>> {
-    let input: Vec<u8> = calls
-        .iter()
-        .flatten()
-        .flat_map(|word| word.to_le_bytes())
-        .collect();
-    let mut output = Vec::new();
-    replay::run(&input[..], &mut output).expect("writing to memory");
-    let text = String::from_utf8(output).expect("text");
-    let lines: Vec<Vec<String>> = text
-        .lines()
-        .map(|line| line.split(' ').map(String::from).collect())
-        .collect();
-    assert_eq!(lines.len(), calls.len());
-    lines
 }
 
 fn hex(field: &str) -> u16 {

@@ -6,7 +6,8 @@ use std::io::Write;
 use std::process::{Command, Output, Stdio};
 use std::thread;
 
-use peer::{Answer, Module, Refusal, StepAnswer, M0_WORDS, M1_WORDS};
+use peer::generate::CallList;
+use peer::{replay, Answer, Module, Refusal, StepAnswer, M0_WORDS, M1_WORDS};
 
 pub const TRANSMIT: u16 = 0x8000;
 pub const CLEAR_ERRORS: u16 = 0x0001;
@@ -252,6 +253,58 @@ pub fn run_program(path: &str, input: &[u8]) -> String {
     });
     assert!(output.status.success());
     String::from_utf8(output.stdout).expect("text")
+}
+
+/// Words of the call that a list begins with.
+fn call_length(words: &[u16]) -> Option<usize> {
+    let count = |place: usize| words.get(place).copied().map(usize::from);
+    Some(match words.first()? {
+        0 | 4 | 7 => 2,
+        1..=3 => 2 + count(1)?,
+        5 => 10,
+        6 => {
+            let m0 = count(3)?;
+            5 + m0 + count(4 + m0)?
+        }
+        8 => 3,
+        _ => return None,
+    })
+}
+
+/// The whole calls of a list.
+pub fn calls(list: &CallList) -> Vec<Vec<u16>> {
+    let bytes = list.bytes();
+    let (pairs, _) = bytes.as_chunks();
+    let words: Vec<u16> = pairs.iter().map(|&pair| u16::from_le_bytes(pair)).collect();
+    let mut rest = &words[..];
+    let mut calls = vec![];
+    while let Some((call, others)) = call_length(rest).and_then(|n| rest.split_at_checked(n)) {
+        calls.push(call.to_vec());
+        rest = others;
+    }
+    calls
+}
+
+/// What the replay program prints for the bytes of a list.
+pub fn printed(bytes: &[u8]) -> String {
+    let mut output = Vec::new();
+    replay::run(bytes, &mut output).expect("writing to memory");
+    String::from_utf8(output).expect("text")
+}
+
+/// The lines of the replay program for calls, each in its fields.
+pub fn answers(calls: &[Vec<u16>]) -> Vec<Vec<String>> {
+    let input: Vec<u8> = calls
+        .iter()
+        .flatten()
+        .flat_map(|word| word.to_le_bytes())
+        .collect();
+    let lines: Vec<Vec<String>> = printed(&input)
+        .lines()
+        .map(|line| line.split(' ').map(String::from).collect())
+        .collect();
+    assert_eq!(lines.len(), calls.len());
+    lines
 }
 
 /// A linear congruential generator, so that runs repeat.

@@ -10,8 +10,8 @@ use std::time::{Duration, Instant};
 
 use crate::generate::{
     byte_list, column_list, cycle_list, damaged_trace, extreme_list, frame_list, length_list,
-    pair_test_list, press_list, step_list, whole_trace, CallList, Conversions, Extremes, Lengths,
-    PairTests, StopPresses, USUAL_SAMPLES, USUAL_STEPS,
+    pair_test_list, press_list, slow_list, step_list, whole_trace, CallList, Conversions, Extremes,
+    Lengths, PairTests, SlowUpdates, StopPresses, USUAL_SAMPLES, USUAL_STEPS,
 };
 
 /// Inputs compared at the same time.
@@ -28,6 +28,7 @@ pub enum InputKind {
     Steps,
     Presses,
     Extremes,
+    Slow,
     Lengths,
     Tests,
     Bytes,
@@ -44,6 +45,7 @@ impl InputKind {
             InputKind::Steps,
             InputKind::Presses,
             InputKind::Extremes,
+            InputKind::Slow,
             InputKind::Lengths,
             InputKind::Tests,
             InputKind::Bytes,
@@ -62,6 +64,7 @@ impl InputKind {
             InputKind::Steps => "steps",
             InputKind::Presses => "presses",
             InputKind::Extremes => "extremes",
+            InputKind::Slow => "slow",
             InputKind::Lengths => "lengths",
             InputKind::Tests => "tests",
             InputKind::Bytes => "bytes",
@@ -82,6 +85,10 @@ impl InputKind {
             }),
             InputKind::Extremes => Input::of_counted_list(&extreme_list(seed), |list| Counted {
                 extremes: Extremes::of_list(list),
+                ..Counted::default()
+            }),
+            InputKind::Slow => Input::of_counted_list(&slow_list(seed), |list| Counted {
+                slow: SlowUpdates::of_list(list),
                 ..Counted::default()
             }),
             InputKind::Lengths => Input::of_counted_list(&length_list(seed), |list| Counted {
@@ -142,6 +149,7 @@ impl Input {
 pub struct Counted {
     pub presses: StopPresses,
     pub extremes: Extremes,
+    pub slow: SlowUpdates,
     pub lengths: Lengths,
     pub tests: PairTests,
     pub conversions: Conversions,
@@ -153,6 +161,7 @@ impl Counted {
         self.presses.counted += other.presses.counted;
         self.extremes.least += other.extremes.least;
         self.extremes.greatest += other.extremes.greatest;
+        self.slow.add(&other.slow);
         self.lengths.add(&other.lengths);
         self.tests.add(&other.tests);
         self.conversions.add(&other.conversions);
@@ -176,8 +185,8 @@ pub struct Totals {
 
 impl Totals {
     /// The last line of a comparison; it counts byte accesses, presses in the
-    /// steps of stops, ends of C, lengths, tests or sections turned, where the
-    /// lists are made for them.
+    /// steps of stops, ends of C, updates of slow machines, lengths, tests or
+    /// sections turned, where the lists are made for them.
     pub fn line(&self, kind: InputKind) -> String {
         let counted = match kind {
             InputKind::Bytes => format!(", {} byte accesses", self.byte_accesses),
@@ -189,6 +198,7 @@ impl Totals {
                 let Extremes { least, greatest } = self.counted.extremes;
                 format!(", {least} windows at the least C, {greatest} at the greatest")
             }
+            InputKind::Slow => format!(", {}", self.counted.slow),
             InputKind::Lengths => format!(", {}", self.counted.lengths),
             InputKind::Tests => format!(", {}", self.counted.tests),
             InputKind::Columns => format!(", {}", self.counted.conversions),

@@ -10,7 +10,7 @@ pub const TURN: u16 = 1024;
 pub(crate) const ADVANCE_STEPS: u16 = 120;
 /// Steps in one ms.
 pub const STEPS_PER_MS: u32 = 5;
-const HIGHEST_TACH: u64 = 32767;
+pub(crate) const HIGHEST_TACH: u64 = 32767;
 /// Tenths in an rpm.
 pub(crate) const TENTHS: u32 = 10;
 
@@ -42,7 +42,7 @@ pub fn movement(q: u16, last_q: u16) -> i32 {
 }
 
 /// numerator / denominator rounded half up; the denominator is not 0.
-fn half_up(numerator: u64, denominator: u64) -> u64 {
+pub(crate) fn half_up(numerator: u64, denominator: u64) -> u64 {
     (2 * numerator + denominator) / (2 * denominator)
 }
 

@@ -8,8 +8,8 @@ use std::time::{Duration, Instant};
 use common::{run_program, run_with_arguments};
 use peer::compare::{InputKind, Programs};
 use peer::generate::{
-    column_list, extreme_list, length_list, pair_test_list, press_list, Conversions, Extremes,
-    Lengths, PairTests, StopPresses,
+    column_list, extreme_list, length_list, pair_test_list, press_list, slow_list, Conversions,
+    Extremes, Lengths, PairTests, SlowUpdates, StopPresses,
 };
 
 const REPLAY: &str = env!("CARGO_BIN_EXE_replay");
@@ -144,6 +144,29 @@ fn windows_at_the_ends_of_c_are_counted() {
         &format!("{least} windows at the least C, {greatest} at the greatest"),
     );
     assert!(least > 3 && greatest > 3);
+}
+
+#[test]
+fn updates_of_slow_machines_are_counted() {
+    let mut updates = SlowUpdates::default();
+    for seed in 1..=10 {
+        updates.add(&SlowUpdates::of_list(&slow_list(seed)));
+    }
+    let [stops, swung, creeps, kept, qualified, pressed, at_an_end, beside, halves, rest @ ..] =
+        updates.counts();
+    let [not_of_rpm, not_twice, not_of_c] = rest;
+    assert_counted(
+        "slow",
+        &format!(
+            "{stops} stops, {swung} after a swing, {creeps} creeps, \
+             {kept} groups kept open by them, {qualified} qualified under five tenths, \
+             {pressed} opened by presses in creeps, {at_an_end} detectors at an end, \
+             {beside} a tenth beside one, {halves} halves of a tenth, \
+             {not_of_rpm} tachs unlike those of whole rpm, \
+             {not_twice} unlike those rounded twice, {not_of_c} unlike those of C"
+        ),
+    );
+    assert!(stops > 10 && creeps > 5, "{updates}");
 }
 
 #[test]

@@ -1,13 +1,15 @@
 //! What the lists of cycles reach: every answer, every status bit. What the
 //! lists of frames, of columns and of bytes are answered.
 
+mod common;
+
 use std::collections::BTreeMap;
 
+use common::printed;
 use peer::generate::{
     byte_list, column_list, cycle_list, extreme_list, frame_list, length_list, pair_test_list,
-    press_list, step_list, CallList, USUAL_STEPS,
+    press_list, slow_list, step_list, CallList, USUAL_STEPS,
 };
-use peer::replay;
 
 const LISTS: usize = 2000;
 const FRAME_LISTS: u64 = 500;
@@ -43,9 +45,7 @@ impl Counts {
 }
 
 fn answers(list: &CallList) -> String {
-    let mut output = Vec::new();
-    replay::run(&list.bytes()[..], &mut output).expect("writing to memory");
-    String::from_utf8(output).expect("text")
+    printed(&list.bytes())
 }
 
 /// Call and answer: the first two fields, with the length of a block.
@@ -193,6 +193,11 @@ fn lists_of_bytes_reach_every_answer() {
 }
 
 #[test]
+fn lists_of_slow_machines_have_cycles_in_mid_run() {
+    assert_cycles_in_mid_run(answered((1..=120).map(slow_list)));
+}
+
+#[test]
 fn lists_of_lengths_have_cycles_in_mid_run() {
     assert_cycles_in_mid_run(answered((1..=60).map(length_list)));
 }
@@ -241,6 +246,7 @@ fn a_seed_gives_one_list_and_another_seed_another() {
         byte_list,
         press_list,
         extreme_list,
+        slow_list,
         length_list,
         pair_test_list,
     ] {
@@ -269,6 +275,7 @@ fn every_call_is_answered() {
     for seed in 0..10 {
         assert_answered(&press_list(seed));
         assert_answered(&extreme_list(seed));
+        assert_answered(&slow_list(seed));
         assert_answered(&length_list(seed));
         assert_answered(&pair_test_list(seed));
     }

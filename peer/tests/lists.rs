@@ -61,6 +61,12 @@ fn lists_of_extremes_have_steps() {
 }
 
 #[test]
+fn lists_of_slow_machines_have_steps() {
+    // Three long windows of the speed or ten short ones.
+    assert!(steps(&answers(&["slow", "5"])) >= 10 * 600);
+}
+
+#[test]
 fn lists_of_lengths_have_steps() {
     // Four runs, each of two times 400 steps or more.
     assert!(steps(&answers(&["lengths", "5"])) > 8 * 400);
@@ -97,7 +103,7 @@ fn lists_of_columns_have_both_calls() {
 #[test]
 fn lists_repeat() {
     let kinds = [
-        "frames", "columns", "bytes", "presses", "extremes", "lengths", "tests",
+        "frames", "columns", "bytes", "presses", "extremes", "slow", "lengths", "tests",
     ];
     for kind in kinds {
         let list = written(LISTS, &[kind, "9"]);
@@ -130,6 +136,7 @@ fn wrong_arguments_show_the_usage() {
         &["columns", "1", "2"],
         &["presses", "1", "2"],
         &["extremes", "1", "2"],
+        &["slow", "1", "2"],
         &["lengths", "1", "2"],
         &["tests", "1", "2"],
         &["bytes"],

@@ -149,6 +149,12 @@ impl Ladder {
         self.error_stands &= !clear;
     }
 
+    /// A cycle with the words of a program, which are refused.
+    pub fn refused_cycle_of(&mut self, kind: FileKind, program: &Program) {
+        self.send(kind, program, true);
+        self.error_stands = true;
+    }
+
     /// Setup, groups and limits, all sound; mostly accepted.
     pub fn program_all(&mut self) {
         if !self.numbers.one_in(10) {

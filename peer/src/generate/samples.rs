@@ -2,6 +2,7 @@
 
 use crate::generate::numbers::Numbers;
 use crate::generate::program::Program;
+use crate::generate::slow_lists::Travel;
 use crate::group::FIRST_CYCLE;
 use crate::motion::ADVANCE_STEPS;
 use crate::step::SAMPLE_WORDS;
@@ -25,6 +26,8 @@ enum Motion {
     Backed(i64),
     /// So many counts from one update of c to the next: two numbers in turn.
     Paced([i32; 2]),
+    /// From one update of the speed to the next.
+    Crept(Travel),
 }
 
 impl Motion {
@@ -143,12 +146,23 @@ impl Forces {
     }
 }
 
+/// Counts gone after so many steps more than one since an update of the speed;
+/// after `last` it is the next update. There is no movement in the first step,
+/// since none counts where that follows a module start.
+fn travelled(travel: Travel, step: u32, last: u32) -> i64 {
+    let [step, last] = [step, last].map(i64::from);
+    let swung = i64::from(travel.swing) * 2 * step.min(last - step) / last;
+    i64::from(travel.counts) * step / last + swung
+}
+
 pub struct Samples {
     position: i64,
     motion: Motion,
     real: Inputs,
     virt: Inputs,
     forces: Forces,
+    /// First Cycle is pressed by updates of the speed; else it is inactive.
+    pressing: bool,
     /// Steps since the module start.
     steps: u32,
 }
@@ -161,6 +175,7 @@ impl Samples {
             real: Inputs::INACTIVE,
             virt: Inputs::INACTIVE,
             forces: Forces::NONE,
+            pressing: true,
             steps: 0,
         }
     }
@@ -233,6 +248,29 @@ impl Samples {
         self.forces.every = numbers.pick(&[0, 20, 60]);
     }
 
+    /// The machine goes on like this from one update of the speed to the next;
+    /// many inputs are active, and First Cycle is pressed or not.
+    pub fn draw_crept(&mut self, numbers: &mut Numbers, travel: Travel) {
+        self.motion = Motion::Crept(travel);
+        for inputs in [&mut self.real, &mut self.virt] {
+            let any = numbers.word();
+            inputs.active = numbers.pick(&[inputs.active, any, any, 0xffff]);
+            inputs.rarity = numbers.pick(&[0, 0, 4, 8, 10]);
+        }
+        self.forces.every = numbers.pick(&[0, 0, 200]);
+        self.pressing = numbers.one_in(2);
+    }
+
+    /// The same with all inputs active or none, and First Cycle pressed or not.
+    pub fn crept(&mut self, travel: Travel, active: bool, pressing: bool) {
+        self.motion = Motion::Crept(travel);
+        for inputs in [&mut self.real, &mut self.virt] {
+            inputs.active = if active { 0xffff } else { 0 };
+            inputs.rarity = 0;
+        }
+        self.pressing = pressing;
+    }
+
     /// The machine stands; tells for how many samples, a stop being among
     /// them.
     pub fn draw_stand(&mut self, numbers: &mut Numbers, program: &Program) -> u32 {
@@ -291,14 +329,20 @@ impl Samples {
                 let counts = |steps: u32| (pace * i64::from(steps)).div_euclid(window.into());
                 (counts(step + 1) - counts(step)) * PARTS
             }
+            Motion::Crept(travel) => {
+                let step = (self.steps - 1) % window;
+                let reached = |step| travelled(travel, step, window - 1);
+                (reached(step) - reached(step.saturating_sub(1))) * PARTS
+            }
         };
         self.position = (self.position + speed).rem_euclid(1024 * PARTS);
     }
 
     /// Makes edges of the First Cycle Inputs in updates and right after, and
-    /// holds them from before.
+    /// holds them from before; none where they are not pressed.
     fn first_cycle_edges(&mut self, numbers: &mut Numbers, window: u32) {
         let active = match self.steps % window {
+            _ if !self.pressing => false,
             step if step + 1 == window => numbers.one_in(8),
             0 => !numbers.one_in(4),
             1 => numbers.one_in(2),

@@ -40,9 +40,13 @@ impl Clock {
         if answer.refusal.is_some() {
             self.steps = 0;
         }
-        let window = module.setup.window_ms() * STEPS_PER_MS;
-        self.steps > 0 && self.steps.is_multiple_of(window)
+        self.steps > 0 && self.steps.is_multiple_of(window_steps(module))
     }
+}
+
+/// Steps from one update of the speed to the next.
+fn window_steps(module: &Module) -> u32 {
+    module.setup.window_ms() * STEPS_PER_MS
 }
 
 /// What is seen of a step.
@@ -51,6 +55,9 @@ pub(crate) struct SeenStep<'a> {
     pub after: &'a Groups,
     pub sample: &'a [u16; SAMPLE_WORDS],
     pub answer: &'a StepAnswer,
+    /// Steps since the module start, this one included; 0 where it is answered
+    /// 11.
+    pub steps: u32,
     /// It updates the speed.
     pub update: bool,
     /// The module after it.
@@ -61,6 +68,11 @@ impl<'a> SeenStep<'a> {
     /// An update of 0 tenths.
     pub fn is_stop(&self) -> bool {
         self.update && self.answer.tenths == 0
+    }
+
+    /// Steps from one update of the speed to the next.
+    pub fn window(&self) -> u32 {
+        window_steps(self.module)
     }
 
     /// The used groups, before and after.
@@ -88,6 +100,7 @@ pub(crate) fn each_step(list: &CallList, mut see: impl FnMut(SeenStep)) {
                     after: &module.groups,
                     sample: &sample,
                     answer: &answer,
+                    steps: clock.steps,
                     update,
                     module,
                 });

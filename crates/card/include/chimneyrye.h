@@ -157,7 +157,7 @@ typedef struct {
     chimneyrye_last last;
     chimneyrye_window shortwindow, longwindow; /* of c, and of C */
     uint32_t c; /* 61440 added: 512 for each of its 120 steps */
-    uint32_t rpm;
+    uint32_t tenths; /* of an rpm */
 } chimneyrye_speed;
 
 typedef struct {
@@ -221,7 +221,7 @@ typedef struct {
 typedef struct {
     bool refused; /* answered 11: the transducer fault */
     uint16_t position;
-    uint32_t rpm;
+    uint32_t tenths; /* the speed in tenths of an rpm, 0 to 1500000 */
     uint16_t tach;
     bool overflow; /* TachOv */
     bool md1, md2;

@@ -57,11 +57,11 @@ pub fn answer_of(
 ) -> Answer
     ensures { result ≡ switches.answer_of u refused w before o tests }
 {
-    let tach = motion::tach_value(u.scalars, w.rpm);
+    let tach = motion::tach_value(u.scalars, w.tenths);
     Answer {
         refused,
         position: w.machine,
-        rpm: w.rpm,
+        tenths: w.tenths,
         tach: tach_shown(tach),
         overflow: 32767 < tach,
         md1: w.md1,

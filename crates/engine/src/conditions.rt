@@ -27,7 +27,7 @@ pub fn fault_conditions(g: &Configuration, s: Sample, last: MachinePosition) -> 
         real: motion::real_inputs(Model::from(g.model), u, s),
         virtuals: s.virtuals,
         c: Speed::FRESH.c,
-        rpm: 0,
+        tenths: 0,
         update: false,
         md1: false,
         md2: false,
@@ -37,15 +37,15 @@ pub fn fault_conditions(g: &Configuration, s: Sample, last: MachinePosition) -> 
 // Of one that is not, where the speed was `before` and is `after`: where it stands and how it moves, and the inputs as in any step.
 #[tactic(auto, unfolding(rules::specs::Motion::conditions, rules::specs::Motion::fault_conditions, rules::specs::Motion::machine_at))]
 pub fn conditions_of(g: &Configuration, s: Sample, before: Speed, after: Speed) -> Conditions
-    ensures { result ≡ motion.conditions g.now s after.c after.rpm (card.updates (motion.window_steps g.now.programming.setup.fast) before.long) }
+    ensures { result ≡ motion.conditions g.now s after.c after.tenths (card.updates (motion.window_steps g.now.programming.setup.fast) before.long) }
 {
     let u = g.programming.setup;
     Conditions {
         c: after.c,
-        rpm: after.rpm,
+        tenths: after.tenths,
         update: motion::updates(motion::window_steps(u.fast), before.long),
-        md1: motion::detects(u.md1, after.rpm),
-        md2: motion::detects(u.md2, after.rpm),
+        md1: motion::detects(u.md1, after.tenths),
+        md2: motion::detects(u.md2, after.tenths),
         ..fault_conditions(g, s, motion::machine_position(u, s.raw))
     }
 }

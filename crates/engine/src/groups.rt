@@ -17,7 +17,7 @@ fn event(w: Conditions, g: Group, n: u16) -> Event
         machine: w.machine,
         level: motion::level(w, IoType::from(g.isvirtual), n),
         first: motion::level(w, IoType::from(g.firstvirtual), 7),
-        rpm: w.rpm,
+        tenths: w.tenths,
         update: w.update,
     }
 }

@@ -56,20 +56,20 @@ fn edge(before: bool, now: bool) -> bool
     now & !before
 }
 
-// A stop: an update with rpm 0.
+// A stop: an update of 0 tenths.
 #[tactic(auto, unfolding(rules::specs::Groups::stops, rules::specs::Motion::is_stop))]
 fn stops(e: Event) -> bool
     ensures { result ≡ groups.stops e }
 {
-    e.update & (e.rpm == 0)
+    e.update & (e.tenths == 0)
 }
 
-// What makes a step in the dwell a qualifying one: input active, rpm not 0.
+// What makes a step in the dwell a qualifying one: input active, the tenths not 0.
 #[tactic(auto, unfolding(rules::specs::Groups::running))]
 fn running(e: Event) -> bool
     ensures { result ≡ groups.running e }
 {
-    e.level & (e.rpm != 0)
+    e.level & (e.tenths != 0)
 }
 
 // Where a group with this dwell is, the Machine Position taken on by the offset or the shift.

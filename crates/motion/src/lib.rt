@@ -1,4 +1,4 @@
-// 01's "Module and sample" and "Speed": inputs, positions, movement, c and rpm by their windows, tachometer and motion detectors.
+// 01's "Module and sample" and "Speed": inputs, positions, movement, c and the tenths by their windows, tachometer and motion detectors.
 #![tactic(auto)]
 
 ghost use Rattle.std.specs.Prelude.{◌≡◌, ◌+◌, ◌^◌, pos, nat_lt};
@@ -128,13 +128,13 @@ pub fn window_after(size: u16, w: Window, m: u16) -> Window
     }
 }
 
-// rpm of |C|, rounded half up.
-#[tactic(auto, unfolding(rules::specs::Motion::rpm_of, rules::specs::Words::round_half_up, rules::specs::Motion::window_time))]
-pub fn rpm_of(fast: bool, counts: u32) -> u32
-    ensures { result ≡ motion.rpm_of fast (pos counts) }
+// The speed of |C| in tenths of an rpm, rounded half up once.
+#[tactic(auto, unfolding(rules::specs::Motion::tenths_of, rules::specs::Words::round_half_up, rules::specs::Motion::window_time))]
+pub fn tenths_of(fast: bool, counts: u32) -> u64
+    ensures { result ≡ motion.tenths_of fast (pos counts) }
 {
     let time: u64 = if fast { 122880 } else { 516096 };
-    ((120000 * counts as u64 + time) / (2 * time)) as u32
+    (1200000 * counts as u64 + time) / (2 * time)
 }
 
 // c after a step, with what its window added.
@@ -148,17 +148,18 @@ fn c_after(x: Speed, m: u16) -> u32
     x.c
 }
 
-// rpm after a step.
-#[tactic(auto, using(counts::proofs::Distance::apart_is), unfolding(rules::specs::Card::rpm_after, rules::specs::Motion::rpm_of))]
-fn rpm_after(fast: bool, x: Speed, m: u16) -> u32
-    ensures { result ≡ card.rpm_after fast x m }
+// The tenths after a step, in 32 bits.
+#[tactic(auto, using(rules::proofs::Laws::apart_is), unfolding(rules::specs::Card::tenths_after, rules::specs::Motion::tenths_of))]
+fn tenths_after(fast: bool, x: Speed, m: u16) -> u32
+    ensures { result ≡ card.tenths_after fast x m }
 {
     let size = window_steps(fast);
     if updates(size, x.long) {
         let added = 512 * size as u32;
-        return rpm_of(fast, window_sum(x.long, m).abs_diff(added));
+        let tenths = tenths_of(fast, window_sum(x.long, m).abs_diff(added));
+        return (tenths % 4294967296) as u32;
     }
-    x.rpm
+    x.tenths
 }
 
 // The speed after a step at q.
@@ -175,44 +176,44 @@ pub fn speed_after(u: Setup, x: Speed, q: u16) -> Speed
         short: window_after(SHORT_STEPS, x.short, m),
         long: window_after(window_steps(u.fast), x.long, m),
         c: c_after(x, m),
-        rpm: rpm_after(u.fast, x, m),
+        tenths: tenths_after(u.fast, x, m),
     }
 }
 
-// 10^code.
+// 10^(code + 1): Tach starts from tenths.
 fn power_of_ten(code: DecimalCode) -> u16
-    ensures { result ≡ 10 ^ variants.code_number code }
+    ensures { result ≡ 10 ^ (variants.code_number code + 1) }
 {
     match code {
-        DecimalCode::Code0 => 1,
-        DecimalCode::Code1 => 10,
-        DecimalCode::Code2 => 100,
-        DecimalCode::Code3 => 1000,
+        DecimalCode::Code0 => 10,
+        DecimalCode::Code1 => 100,
+        DecimalCode::Code2 => 1000,
+        DecimalCode::Code3 => 10000,
     }
 }
 
-// Tach, rounded half up.
+// Tach, from the tenths and rounded half up once.
 #[tactic(auto, unfolding(rules::specs::Motion::tach_value, rules::specs::Words::round_half_up))]
-pub fn tach_value(k: Scalars, rpm: u32) -> u64
-    ensures { result ≡ motion.tach_value k rpm }
+pub fn tach_value(k: Scalars, tenths: u32) -> u64
+    ensures { result ≡ motion.tach_value k tenths }
 {
     let code = DecimalCode::from(k.code);
     let d = (k.divider as u64 + 1) * power_of_ten(code) as u64;
-    (2 * (rpm as u64 * k.multiplier as u64) + d) / (2 * d)
+    (2 * (tenths as u64 * k.multiplier as u64) + d) / (2 * d)
 }
 
-// A motion detector; 0/0 never.
+// A motion detector: the tenths beside ten times its setpoints; 0/0 never.
 #[tactic(auto, unfolding(rules::specs::Motion::detects))]
-pub fn detects(d: Detector, rpm: u32) -> bool
-    ensures { result ≡ motion.detects d rpm }
+pub fn detects(d: Detector, tenths: u32) -> bool
+    ensures { result ≡ motion.detects d tenths }
 {
-    let (low, high) = (d.low as u32, d.high as u32);
-    if low == 0 && high == 0 {
+    if d.low == 0 && d.high == 0 {
         return false;
     }
-    if low <= high {
-        low <= rpm && rpm <= high
+    let (low, high) = (10 * d.low as u32, 10 * d.high as u32);
+    if d.low <= d.high {
+        low <= tenths && tenths <= high
     } else {
-        low <= rpm || rpm <= high
+        low <= tenths || tenths <= high
     }
 }

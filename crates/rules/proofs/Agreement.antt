@@ -28,11 +28,11 @@ use Rattle.rules.specs.Nudge.{nudge_clear_bit, nudge_output, nudged_limit, nudge
 use Rattle.rules.specs.Calls.{Read, Write, Call, Step, FileCall, NudgeCall, ByteCall, sound, configuration_after}
 use Rattle.rules.specs.Card.{speed_after, group_after, speed_now, conditions_now, group_now, left_position, open_now, groups_now, positions_now, openness_now, timed_after, timed_now, timed_of, group_state_at, fresh_group, timed_at, fresh_timed, module_start, group_start, limit_start, start_of, since_after, fresh_module, file_call, nudge_call, since_now, step_state, step_call, write_call}
 use Rattle.rules.specs.Run.{accessed, module_after, run}
-use Rattle.rules.specs.History.{configuration_of, programming_of, is_module_start, is_group_start, is_limit_start, since, turned_in, since_module_start, up_to_step, rpm_in, conditions_in, GroupStep, past_of, group_step_in, since_group_start, group_past, position_in, open_in, positions_in, openness_in, pair_in, since_limit_start, lasts_in}
+use Rattle.rules.specs.History.{configuration_of, programming_of, is_module_start, is_group_start, is_limit_start, since, turned_in, since_module_start, up_to_step, tenths_in, conditions_in, GroupStep, past_of, group_step_in, since_group_start, group_past, position_in, open_in, positions_in, openness_in, pair_in, since_limit_start, lasts_in}
 use Rattle.rules.proofs.Packing.{get_d_table_0, table_same}
 use Rattle.rules.proofs.GroupPast.{GroupLink, group_step, group_fresh, position_is, open_is}
 use Rattle.rules.proofs.Timed.{TimedLink, timed_step, timed_fresh, lasting_is}
-use Rattle.rules.proofs.Windows.{SpeedLink, speed_step, speed_fresh, c_held, rpm_is, updates_is}
+use Rattle.rules.proofs.Windows.{SpeedLink, speed_step, speed_fresh, c_held, tenths_are, updates_is}
 use Rattle.rules.proofs.Cycles.{either_way, file_leaves, nudge_leaves, step_programming}
 
 -- ---- The configuration
@@ -112,13 +112,13 @@ module _ (model : Model) (l : List Call) (x : SinceStart) (k : Agrees (programmi
   abbrev q : ℕ
   q = turned p.setup.reversed s.raw
 
-  -- what the groups and outputs read: c, rpm and its updates are those of the history
+  -- what the groups and outputs read: c, the tenths and their updates are those of the history
   pub conditions_are : conditions_now g x s ≡ conditions_in model l s
-  unfolding conditions_now conditions_in speed_now speed_after rpm_in turned_in
+  unfolding conditions_now conditions_in speed_now speed_after tenths_in turned_in
   conditions_are =
       rw (
         c_held p.setup x.speed (since_module_start model l) k.speed q,
-        rpm_is p.setup x.speed (since_module_start model l) k.speed q,
+        tenths_are p.setup x.speed (since_module_start model l) k.speed q,
         updates_is p.setup x.speed (since_module_start model l) k.speed q,
       )
 

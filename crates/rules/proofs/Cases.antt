@@ -14,7 +14,7 @@ use Rattle.std.specs.Cmp.{booleans_Decides, signed_Decides}
 use Rattle.std.specs.List.{list_all}
 use Rattle.std.proofs.lemmas.List.Sums.{AllPass-from_list_all}
 use Rattle.rules.specs.declared.Position.TheVariants.{OfMachine}
-use Rattle.rules.specs.Motion.{rpm_of, tach_shown}
+use Rattle.rules.specs.Motion.{tenths_of, tach_shown}
 use Rattle.rules.specs.Counts.{ahead, holds}
 use Rattle.rules.specs.Switches.{moved, pulse_holds}
 use Rattle.rules.specs.LimitWords.{pulse_bad, pulses_touch}
@@ -27,8 +27,8 @@ use Rattle.rules.proofs.Computes.{trace}
 -- ---- The test of a line, and what follows from it
 
 right : Case → Bool
-right (tach rpm multiplier divider code says) = eqb (tach_shown (record { multiplier = multiplier; divider = divider; code = code }) rpm) says
-right (speed fast c says) = eqb (rpm_of fast c) says
+right (tach tenths multiplier divider code says) = eqb (tach_shown (record { multiplier = multiplier; divider = divider; code = code }) tenths) says
+right (speed fast c says) = eqb (tenths_of fast c) says
 right (advance a c setpoint says) = eqb (moved 1024 a c setpoint) says
 right (pulses on off q k says) =
     pointwise eqb (positions_with 1024 0 (λ p. pulse_holds 1024 (pos 0) (switch_at 2 q k 0 (on ∷ off ∷ [])) q k (OfMachine (record { 0 = p })))) says
@@ -41,7 +41,7 @@ right (integers given says) = pointwise int_eq given says
 
 right→says : (c : Case) → right c ≡ true → Says c
 unfolding right
-right→says (tach rpm multiplier divider code says) t = eqb-true _ says t
+right→says (tach tenths multiplier divider code says) t = eqb-true _ says t
 right→says (speed fast c says) t = eqb-true _ says t
 right→says (advance a c setpoint says) t = eqb-true _ says t
 right→says (pulses on off q k says) t = (bytes_decides _ says).0 t

@@ -32,7 +32,7 @@ unfolding Variants.model_known Variants.model_of Variants.model_number Variants.
 variants = tt
 
 motion : Unit {0}
-unfolding Motion.real_input Motion.turned Motion.scaled_position Motion.machine_position Motion.machine_at Motion.movement Motion.window_steps Motion.window_time Motion.rpm_of Motion.is_stop Motion.tach_value Motion.tach_shown Motion.tach_overflow Motion.detects Motion.real_inputs Motion.conditions Motion.fault_conditions
+unfolding Motion.real_input Motion.turned Motion.scaled_position Motion.machine_position Motion.machine_at Motion.movement Motion.window_steps Motion.window_time Motion.tenths_of Motion.is_stop Motion.tach_value Motion.tach_shown Motion.tach_overflow Motion.detects Motion.real_inputs Motion.conditions Motion.fault_conditions
 motion = tt
 
 groups : Unit {0}
@@ -80,7 +80,7 @@ unfolding Quant.after_each Quant.no_later Quant.latest_saw Quant.held_under
 quantifiers = tt
 
 past1 : Unit {0}
-unfolding History.configuration_of History.is_module_start History.is_group_start History.is_limit_start History.since History.turned_in History.since_module_start History.movement_from History.movements History.window_total History.c_of History.big_c_of History.rpm_at History.update_at History.rpm_in History.conditions_in History.begins_at History.takes_at History.level_at
+unfolding History.configuration_of History.is_module_start History.is_group_start History.is_limit_start History.since History.turned_in History.since_module_start History.movement_from History.movements History.window_total History.c_of History.big_c_of History.tenths_at History.update_at History.tenths_in History.conditions_in History.begins_at History.takes_at History.level_at
 past1 = tt
 
 past2 : Unit {0}
@@ -104,7 +104,7 @@ unfolding BusHistory.last_shown BusHistory.shown_configuration BusHistory.byte_t
 past4 = tt
 
 card1 : Unit {0}
-unfolding Card.biased_movement Card.updates Card.window_sum Card.window_after Card.c_after Card.rpm_after Card.speed_after Card.position_by Card.begins_now Card.takes_now Card.shift_now Card.position_now Card.held_now Card.qualified_now Card.opened_now Card.group_after Card.speed_now Card.conditions_now Card.group_now
+unfolding Card.biased_movement Card.updates Card.window_sum Card.window_after Card.c_after Card.tenths_after Card.speed_after Card.position_by Card.begins_now Card.takes_now Card.shift_now Card.position_now Card.held_now Card.qualified_now Card.opened_now Card.group_after Card.speed_now Card.conditions_now Card.group_now
 card1 = tt
 
 card2 : Unit {0}

@@ -12,11 +12,11 @@ use borrow.Author.Tests.{le-ltb, le-leb}
 use Rattle.rules.specs.declared.Model.{Model}
 use Rattle.rules.specs.declared.Configuration.{Configuration}
 use Rattle.rules.specs.Words.{round_half_up}
-use Rattle.rules.specs.Motion.{scale_factor, turned, movement, window_steps, window_time, short_steps, rpm_of, c_value}
+use Rattle.rules.specs.Motion.{scale_factor, turned, movement, window_steps, window_time, short_steps, tenths_of, c_value}
 use Rattle.rules.specs.Calls.{raw_most, default_setup, fresh_configuration, sound, step_configuration, configuration_after}
 use Rattle.rules.specs.Run.{run}
 use Rattle.rules.specs.Sums.{least_big_c, most_big_c, least_c, most_c, most_product, sample_at, steps_by, backward, forward}
-use Rattle.rules.specs.History.{configuration_of, setup_in_force, is_module_start, since, turned_in, since_module_start, movement_from, movements, total, window_total, c_of, big_c_of, rpm_at}
+use Rattle.rules.specs.History.{configuration_of, setup_in_force, is_module_start, since, turned_in, since_module_start, movement_from, movements, total, window_total, c_of, big_c_of, tenths_at}
 use Rattle.rules.proofs.Laws.{minus, add_differences, biased_natural}
 use Rattle.rules.proofs.Windows.{length_movements}
 use Rattle.rules.proofs.Agreement.{agrees}
@@ -131,13 +131,13 @@ module _ (model : Model) (by : ℕ) where
     unfolding big_c_of window_steps
     big_c_by b last = rw (slow, qs_are n) (window_by by 2520 n b last)
 
-    -- the card's own c, and its rpm, which is of C
+    -- the card's own c, and its tenths, which are of C
     card_by : (c big_c : ℤ) → c_of (since_module_start model (steps_by by n)) ≡ c → big_c_of (setup_in_force model (steps_by by n)).fast (since_module_start model (steps_by by n)) ≡ big_c
-        → (c_value (run model (steps_by by n)).state.since.speed.c ≡ c) × ((run model (steps_by by n)).state.since.speed.rpm ≡ rpm_of false big_c)
-    unfolding rpm_at
+        → (c_value (run model (steps_by by n)).state.since.speed.c ≡ c) × ((run model (steps_by by n)).state.since.speed.tenths ≡ tenths_of false big_c)
+    unfolding tenths_at
     card_by c big_c e f =
         let k = (agrees model (steps_by by n)).speed in
-        (k.c ∙ e, k.rpm ∙ (rw (← f, slow)))
+        (k.c ∙ e, k.tenths ∙ (rw (← f, slow)))
 
 -- ---- The two lists
 
@@ -156,12 +156,12 @@ pub forward_reaches_c : (model : Model) → c_of (since_module_start model forwa
 forward_reaches_c model = c_by model 511 _ (lit< tt) refl
 
 -- the card itself
-pub backward_card : (model : Model) → (c_value (run model backward).state.since.speed.c ≡ least_c) × ((run model backward).state.since.speed.rpm ≡ 150000)
-unfolding rpm_of round_half_up window_time
+pub backward_card : (model : Model) → (c_value (run model backward).state.since.speed.c ≡ least_c) × ((run model backward).state.since.speed.tenths ≡ 1500000)
+unfolding tenths_of round_half_up window_time
 backward_card model = card_by model 512 _ least_c least_big_c (backward_reaches_c model) (backward_reaches model)
 
-pub forward_card : (model : Model) → (c_value (run model forward).state.since.speed.c ≡ most_c) × ((run model forward).state.since.speed.rpm ≡ 149707)
-unfolding rpm_of round_half_up window_time
+pub forward_card : (model : Model) → (c_value (run model forward).state.since.speed.c ≡ most_c) × ((run model forward).state.since.speed.tenths ≡ 1497070)
+unfolding tenths_of round_half_up window_time
 forward_card model = card_by model 511 _ most_c most_big_c (forward_reaches_c model) (forward_reaches model)
 
 -- q × SF is 1,047,552 in a fresh card's step at raw 1023

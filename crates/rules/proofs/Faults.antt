@@ -73,7 +73,7 @@ step_11 m s = (
 unsound : (m : Module) (s : Sample) → step_number (step_call m s).answer ≡ 11 → sound m.configuration s ≡ false
 unsound m s e = sound_reads m.configuration s ∙ ap not ((step_exactly m s).0.0 e).1
 
-divisor_some : (k : Scalars) (c : DecimalCode) → 0 < divisor k * 10 ^ code_number c
+divisor_some : (k : Scalars) (c : DecimalCode) → 0 < divisor k * 10 ^ (code_number c + 1)
 divisor_some k Code0 = omega arith
 divisor_some k Code1 = omega arith
 divisor_some k Code2 = omega arith
@@ -87,13 +87,13 @@ no_tach k = let h = divisor_some k (code_of k.code) in div-eq_of_lt (omega arith
 abbrev pub forced_only : Module → Sample → OutputWords
 forced_only m s = output_words (model_in m.configuration) s (λ n. false)
 
--- "reports the Machine Position of the last step since power-up not answered 11, else 0; rpm, tach and TachOv 0; detectors and unforced outputs off"; 02: "In a step
+-- "reports the Machine Position of the last step since power-up not answered 11, else 0; .. tach and TachOv 0; detectors and unforced outputs off", and 0 tenths; 02: "In a step
 -- answered 11 the count is 0."
 pub fault_shows : (m : Module) (s : Sample) → step_number (step_call m s).answer ≡ 11
     → (step_call m s).answer ≡ record {
       refused = true;
       position = m.state.kept.shown.position;
-      rpm = 0;
+      tenths = 0;
       tach = 0;
       overflow = false;
       md1 = false;

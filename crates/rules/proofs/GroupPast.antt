@@ -89,8 +89,8 @@ mode5_step false false z f false n e = simp and-false
 pub no_stop : (h : Bool) (e : Event) → (h && running e) ≡ true → stops e ≡ false
 unfolding running stops is_stop
 no_stop h e t =
-    let r : eqb e.rpm 0 ≡ false =
-    not-true (eqb e.rpm 0) (and_parts e.level (not (eqb e.rpm 0)) (and_parts h (e.level && not (eqb e.rpm 0)) t).1).1 in
+    let r : eqb e.tenths 0 ≡ false =
+    not-true (eqb e.tenths 0) (and_parts e.level (not (eqb e.tenths 0)) (and_parts h (e.level && not (eqb e.tenths 0)) t).1).1 in
     rw (r, and-false)
 
 module _ (t : ℕ) (g : Group) (x : GroupState) (e : Event) (h : List PastStep) (k : GroupLink (t + 1) (group_mode g) x h) (b : e.machine.0 < t + 1) where

@@ -9,7 +9,7 @@ use native.Mathlib.Omega.{arith}
 use borrow.Author.Tests.{le-ltb, lt-ltb}
 use lib.ListN.{length, get_or, set, length-set}
 use lib.Seq.{get_or-set_same, get_or-set_other}
-use lib.IntN.{ℤ, pos, negsuc, neg_ℤ, sub_ℕ, ◌+ℤ◌, ◌-ℤ◌, +ℤ_assoc, +ℤ_comm, neg_ℤ-+ℤ}
+use lib.IntN.{ℤ, pos, negsuc, neg_ℤ, nat_abs, sub_ℕ, ◌+ℤ◌, ◌-ℤ◌, +ℤ_assoc, +ℤ_comm, neg_ℤ-+ℤ}
 use Rattle.std.proofs.lemmas.Nat.{mod_below}
 use Rattle.std.proofs.lemmas.Bool.{cases_lt}
 use Rattle.rules.specs.Words.{modulo, stored_at}
@@ -19,6 +19,10 @@ use Rattle.rules.specs.Counts.{ahead}
 pub minus : (a b : ℕ) → pos a -ℤ pos b ≡ sub_ℕ a b
 minus a zero = rw (le-ltb a 0 (omega arith)) (ap pos (omega arith))
 minus a (suc b) = refl
+
+-- how far two counts are apart, as the library's `abs_diff` reckons it
+pub apart_is : (a b : ℕ) → (a - b) + (b - a) ≡ nat_abs (sub_ℕ a b)
+apart_is a b = elim (cases_lt a b) [ inl l ↦ rw (lt-ltb a b l) (omega arith) | inr l ↦ rw (le-ltb a b l) (omega arith) ]
 
 exchange : (a b c d : ℤ) → (a +ℤ b) +ℤ (c +ℤ d) ≡ (a +ℤ c) +ℤ (b +ℤ d)
 exchange a b c d =

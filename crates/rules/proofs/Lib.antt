@@ -6,6 +6,7 @@ pub mod Packing
 pub mod Tests
 pub mod Past
 pub mod Stretch
+pub mod Tenths
 pub mod Windows
 pub mod Timed
 pub mod GroupPast

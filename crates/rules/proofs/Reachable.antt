@@ -1,6 +1,6 @@
 -- Every module that a card can hold: for each list of calls from power-up no sum or count of the state machine runs over, the movement sums and the scaled
 -- position's product are within 02's bounds, setpoints, offsets, presets and shifts are below SF, and what the checks bound is within its bounds. So what Card
--- says of other modules (a sum modulo 2^32) no card meets. Assumes nothing.
+-- says of other modules (a sum or a speed modulo 2^32) no card meets. Assumes nothing.
 use Prim.Native.Nat.{ℕ, ◌+◌, ◌-◌, ◌*◌, ◌^◌, ◌≤◌, ◌<◌}
 use mathlib.Core.Logic.{inl, inr}
 use mathlib.Core.Path.{◌≡◌}
@@ -35,14 +35,15 @@ use Rattle.rules.specs.Bus.{shown_by}
 use Rattle.rules.specs.Calls.{Call, Step, FileCall, NudgeCall, ByteCall, raw_most, sound}
 use Rattle.rules.specs.Card.{biased_movement, window_sum, group_state_at, timed_at}
 use Rattle.rules.specs.Run.{run}
-use Rattle.rules.specs.Sums.{least_big_c, most_big_c, least_c, most_c, most_product}
-use Rattle.rules.specs.History.{configuration_of, setup_in_force, conditions_in, outputs_in, last_position, expected_answer, since_module_start, since_group_start, since_limit_start, last_taken, past_of, movements, held_at}
+use Rattle.rules.specs.Sums.{least_big_c, most_big_c, least_c, most_c, most_product, most_tenths}
+use Rattle.rules.specs.History.{configuration_of, setup_in_force, conditions_in, outputs_in, last_position, expected_answer, since_module_start, since_group_start, since_limit_start, last_taken, past_of, movements, tenths_at, held_at}
 use Rattle.rules.specs.BusHistory.{last_shown}
 use Rattle.rules.proofs.Packing.{packed_lt, packed_below}
 use Rattle.rules.proofs.GroupPast.{shift_below}
 use Rattle.rules.proofs.Timed.{passed_of}
 use Rattle.rules.proofs.Windows.{steps_below, sum_fits, biased_below, long_some, long_small}
-use Rattle.rules.proofs.Sums.{Between, sums_within, sums_held, product_within, last_raw_below}
+use Rattle.rules.proofs.Tenths.{tenths_within}
+use Rattle.rules.proofs.Sums.{Between, sums_within, sums_held, magnitude_in, product_within, last_raw_below}
 use Rattle.rules.proofs.Ranges.{SwitchWithin, Within, ranges}
 use Rattle.rules.proofs.Programs.{model_is}
 use Rattle.rules.proofs.Agreement.{configuration_is, agrees}
@@ -60,6 +61,7 @@ pub record StateWithin (p : Programming) (x : SinceStart) : Type 0 where
   pub short : WindowWithin short_steps least_c most_c x.speed.short (biased_movement x.speed.last)
   pub long : WindowWithin (window_steps p.setup.fast) least_big_c most_big_c x.speed.long (biased_movement x.speed.last)
   pub c : Between least_c most_c (c_value x.speed.c)
+  pub tenths : x.speed.tenths ≤ most_tenths
   pub shift : (n : ℕ) → n < 6 → (group_state_at x n).shift < scale_factor p.setup
   pub left : (n t : ℕ) → n < 32 → limit_switch (limit_of p n) ≡ Timed t → (timed_at x n).left ≤ timed_steps t
 
@@ -112,6 +114,7 @@ state_within model l =
             (biased_movement x.speed.last q) (biased_below x.speed.last q);
       };
       c = rw h.c i.c;
+      tenths = rw k.speed.tenths (unfold tenths_at in tenths_within p.setup.fast _ (magnitude_in p.setup.fast (since_module_start model l)));
       shift = λ n b. rw (k.groups n b).shift (shift_below p.setup.top (last_taken (past_of (since_group_start model l n))));
       left = λ n t b e. rw (k.timed n b t e).left (left_below (timed_steps t) (passed_of (since_limit_start model l n)) (held_at (since_limit_start model l n)));
     }
@@ -138,9 +141,9 @@ answer_below : (model : Model) (l : List Call) (s : Sample) → (expected_answer
 unfolding expected_answer answer_of conditions_in conditions fault_conditions machine_at
 answer_below model l s = elim (cases_Bool (sound (configuration_of model l) s)) [ inl q ↦ rw q (below_1024 model l s.raw) | inr q ↦ rw q (last_below model l) ]
 
-tach_below : (k : Scalars) (rpm : ℕ) → tach_shown k rpm ≤ 32767
+tach_below : (k : Scalars) (tenths : ℕ) → tach_shown k tenths ≤ 32767
 unfolding tach_shown
-tach_below k rpm = elim (cases_Bool (ltb 32767 (tach_value k rpm))) [ inl q ↦ rw q (omega arith) | inr q ↦ let h = ltb-false 32767 (tach_value k rpm) q in rw q (omega arith) ]
+tach_below k tenths = elim (cases_Bool (ltb 32767 (tach_value k tenths))) [ inl q ↦ rw q (omega arith) | inr q ↦ let h = ltb-false 32767 (tach_value k tenths) q in rw q (omega arith) ]
 
 real_below : (model : Model) (s : Sample) (rule : ℕ → Bool) → word_of 0 (output_on model s rule) < 2 ^ real_count model
 unfolding output_on present

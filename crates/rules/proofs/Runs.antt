@@ -19,7 +19,7 @@ use Rattle.rules.specs.Variants.{model_known, model_of}
 use Rattle.rules.specs.Calls.{Call, Step, FileCall, NudgeCall}
 use Rattle.rules.specs.Card.{powered_up, fresh_module}
 use Rattle.rules.specs.Run.{answers}
-use Rattle.rules.specs.History.{GroupStep, past_of, open_at, c_of, rpm_at, expected_answers}
+use Rattle.rules.specs.History.{GroupStep, past_of, open_at, c_of, tenths_at, expected_answers}
 use Rattle.rules.proofs.Computes.{history, machine}
 use Rattle.rules.proofs.Theorem.{every_answer}
 
@@ -127,7 +127,7 @@ card_runs =
           (stepped 10 0x0102 0 ∷ stepped 10 0x0101 0 ∷ stepped 99 0 0 ∷ stepped 100 0x0103 0 ∷ []);
       says = (0, 2, 1) ∷ (0, 1, 1) ∷ lit ∷ dark ∷ [];
     }
-    -- LS Enable of its kind, input 7 for output 1 and 23 for output 17, and a detector that is on at rpm 0 (low 100, high 50), in Mode 0: output 2 has MD1, output 3 MD2
+    -- LS Enable of its kind, input 7 for output 1 and 23 for output 17, and a detector that is on at 0 tenths (low 100, high 50), in Mode 0: output 2 has MD1, output 3 MD2
     ∷ record {
       number = 8513;
       calls = with (stored_at 4 (100 ∷ 50 ∷ []) (m0 0x8001 (0x8003 ∷ 0 ∷ 0 ∷ 0 ∷ 0xC001 ∷ [])))
@@ -170,12 +170,12 @@ pub openings : Mode → List GroupStep → List GroupStep → List Bool
 openings mode past [] = []
 openings mode past (s ∷ steps) = open_at mode (past_of (s ∷ past)) ∷ openings mode (s ∷ past) steps
 
--- a step of a group with the dwell 0/50: position, input, First Cycle Input, rpm, whether it was updated
+-- a step of a group with the dwell 0/50: position, input, First Cycle Input, tenths of an rpm, whether they were updated
 pub step : ℕ → Bool → Bool → ℕ → Bool → GroupStep
-step p level first rpm update = record {
+step p level first tenths update = record {
   sf = 1024;
   program = record { used = true; isvirtual = true; firstvirtual = true; mode = 5; quantity = 1; dwell = record { on = 0; off = 50 }; offset = 0 };
-  event = record { machine = record { 0 = p }; level = level; first = first; rpm = rpm; update = update };
+  event = record { machine = record { 0 = p }; level = level; first = first; tenths = tenths; update = update };
 }
 
 -- steps from a start, and at which of them the group is open
@@ -185,15 +185,15 @@ pub record Mode5Run : Type 0 where
 
 pub mode5_runs : List Mode5Run
 mode5_runs =
-    -- A qualifying step at 20 opens. A stop at 30 closes in the dwell. Input active at 40 with rpm 0 does not open again. A First Cycle edge at 60, out of the
+    -- A qualifying step at 20 opens. A stop at 30 closes in the dwell. Input active at 40 with 0 tenths does not open again. A First Cycle edge at 60, out of the
     -- dwell, opens. The next dwell's beginning at 5 closes and forgets, so that an edge there does not count.
     record {
       steps = step 1000 true false 9 false ∷ step 20 true false 9 false ∷ step 30 true false 0 true ∷ step 40 true false 0 false ∷ step 60 true true 0 false
           ∷ step 1000 true false 0 false ∷ step 5 true true 0 false ∷ [];
       says = false ∷ true ∷ false ∷ false ∷ true ∷ true ∷ false ∷ [];
     }
-    -- An edge in the step of a stop, after a qualifying step: open, and at rpm 0 until the next update. That is again a stop, and closes, since the press is
-    -- held. One more press, in the stop after it, opens; an update with another rpm does not close.
+    -- An edge in the step of a stop, after a qualifying step: open, and at 0 tenths until the next update. That is again a stop, and closes, since the press is
+    -- held. One more press, in the stop after it, opens; an update with other tenths does not close.
     ∷ record {
       steps = step 20 true false 9 false ∷ step 30 true true 0 true ∷ step 30 true true 0 false ∷ step 30 true true 0 true ∷ step 30 true false 0 false
           ∷ step 30 true true 0 true ∷ step 30 true true 0 false ∷ step 31 false true 9 true ∷ [];
@@ -215,6 +215,11 @@ mode5_runs =
       steps = step 20 true false 9 false ∷ step 30 true true 9 false ∷ step 30 true true 0 true ∷ step 30 true true 0 false ∷ [];
       says = true ∷ true ∷ false ∷ false ∷ [];
     }
+    -- A creep: 1 tenth qualifies, and an update of 1 tenth is no stop; one of 0 is.
+    ∷ record {
+      steps = step 20 true false 1 false ∷ step 60 false false 1 true ∷ step 61 false false 0 true ∷ [];
+      says = true ∷ true ∷ false ∷ [];
+    }
     ∷ []
 
 -- each run, computed
@@ -228,13 +233,13 @@ down_from : ℕ → List ℕ
 down_from zero = []
 down_from (suc n) = n ∷ down_from n
 
--- c: 0 before the 120th step, then 119, since the first movement is 0, and 120 at the 240th; rpm with TResp 1 from the 600th step on
+-- c: 0 before the 120th step, then 119, since the first movement is 0, and 120 at the 240th; tenths with TResp 1 from the 600th step on
 speeds : (map (λ (n : ℕ). c_of (down_from n)) (119 ∷ 120 ∷ 239 ∷ 240 ∷ []) ≡ pos 0 ∷ pos 119 ∷ pos 119 ∷ pos 120 ∷ [])
-    × (map (λ (n : ℕ). rpm_at true (down_from n)) (599 ∷ 600 ∷ []) ≡ 0 ∷ 292 ∷ [])
+    × (map (λ (n : ℕ). tenths_at true (down_from n)) (599 ∷ 600 ∷ []) ≡ 0 ∷ 2925 ∷ [])
 unfolding history down_from
 speeds = (refl, refl)
 
--- ---- A moving card, computed by the state machine: c comes with the 120th step, rpm with the 600th
+-- ---- A moving card, computed by the state machine: c comes with the 120th step, the tenths with the 600th
 
 -- n steps, one count on in each, the first at a raw position
 pub moving : ℕ → ℕ → ℕ → List Call
@@ -281,17 +286,29 @@ pub always_run :
 unfolding machine m0 m1 moving
 always_run = refl
 
--- Mode 5, two groups with dwell 0/1000, inputs 17 and 18 active: a step in the dwell qualifies when rpm is not 0, with TResp 1 from the 600th step on; after 600
+-- a card with two groups in Mode 5, with dwell 0/1000
+pub mode5_with : List Call → List Call
+mode5_with =
+    with (m0 0x8021 (0xE501 ∷ 0 ∷ 1000 ∷ 0 ∷ 0xC501 ∷ 0 ∷ 1000 ∷ 0 ∷ []))
+    (m1 ((17, 0 ∷ 0 ∷ 0 ∷ 0 ∷ 1023 ∷ []) ∷ (18, 0 ∷ 0 ∷ 0 ∷ 0 ∷ 1023 ∷ []) ∷ []))
+
+-- Inputs 17 and 18 active: a step in the dwell qualifies on tenths that aren't 0, with TResp 1 from the 600th step on; after 600
 -- steps without movement comes a stop. In its step group 1 has an edge of its First Cycle Input, 24, and is open; group 2 is closed, and an edge of its own, 8,
 -- opens it in the next step
 pub mode5_card :
     last_shown 598
-    (with (m0 0x8021 (0xE501 ∷ 0 ∷ 1000 ∷ 0 ∷ 0xC501 ∷ 0 ∷ 1000 ∷ 0 ∷ []))
-    (m1 ((17, 0 ∷ 0 ∷ 0 ∷ 0 ∷ 1023 ∷ []) ∷ (18, 0 ∷ 0 ∷ 0 ∷ 0 ∷ 1023 ∷ []) ∷ []))
-    (moving 600 0 3 ++ replicate 599 (at 599 3) ++ (at 599 0x83 ∷ stepped 599 0x80 0x83 ∷ [])))
+    (mode5_with (moving 600 0 3 ++ replicate 599 (at 599 3) ++ (at 599 0x83 ∷ stepped 599 0x80 0x83 ∷ [])))
     ≡ dark ∷ replicate 600 (0, 0, 3) ++ (lit ∷ (0, 0, 3) ∷ [])
-unfolding machine m0 m1 moving
+unfolding machine m0 m1 moving mode5_with
 mode5_card = refl
+
+-- The same card at a creep of 1 count in each window, 5 tenths: the 600th step qualifies, and the update in the 1200th is no stop.
+pub creep_card :
+    last_shown 598
+    (mode5_with (replicate 599 (at 0 3) ++ replicate 600 (at 1 3) ++ (at 2 3 ∷ at 2 3 ∷ [])))
+    ≡ dark ∷ replicate 602 (0, 0, 3)
+unfolding machine m0 m1 mode5_with
+creep_card = refl
 
 -- ---- A card that takes 256 pair tests
 

@@ -1,7 +1,7 @@
 -- 02's "Smaller sums": over every list of calls the movement sums and the scaled position's product stay within their bounds, told of 01's signed sums, and
--- the numbers that the card holds stand for these sums. Assumes nothing.
+-- the numbers that the card holds stand for these sums. So do the speed, and what is made on the way to it and to Tach. Assumes nothing.
 use Prim.Native.Nat.{ℕ, zero, suc, ◌+◌, ◌-◌, ◌*◌, ◌%◌, ◌≤◌, ◌<◌}
-use mathlib.Core.Logic.{inl, inr}
+use mathlib.Core.Logic.{◌↔◌, inl, inr}
 use mathlib.Core.Path.{◌≡◌, refl, sym, ◌∙◌}
 use mathlib.Core.Bool.{Bool, true, false}
 use mathlib.Core.List.{List, [], ◌∷◌}
@@ -9,7 +9,7 @@ use native.Mathlib.Nat.{mod-lt, mul-le-mul}
 use native.Mathlib.Omega.{arith}
 use lib.ListN.{length, take, drop}
 use lib.Dec.{ltb, leb, lit<, lit≤, le→leb}
-use lib.IntN.{ℤ, pos, neg_ℤ, sub_ℕ, ◌-ℤ◌, +ℤ_idr, +ℤ_invr}
+use lib.IntN.{ℤ, pos, neg_ℤ, nat_abs, sub_ℕ, ◌-ℤ◌, +ℤ_idr, +ℤ_invr}
 use lib.Signed.{◌≤ℤ◌, lt_z, le_z_yes, lt_z_yes, lt_z_no, <ℤ-≤ℤ_trans, clash_ℤ}
 use borrow.Author.Tests.{ltb-true, ltb-false, leb-true}
 use Rattle.std.proofs.lemmas.Bool.{and_parts, false_from_ne_true, cases_Bool}
@@ -21,13 +21,15 @@ use Rattle.rules.specs.declared.Window.{Window}
 use Rattle.rules.specs.declared.Speed.{Speed}
 use Rattle.rules.specs.declared.Sample.{Sample}
 use Rattle.rules.specs.Motion.{scale_factor, turned, window_steps, short_steps, unbiased, c_value, conditions}
+use Rattle.rules.specs.Groups.{group_event, stops}
 use Rattle.rules.specs.Calls.{Call, Step, FileCall, NudgeCall, ByteCall, raw_most, sound}
 use Rattle.rules.specs.Card.{biased_movement, window_sum}
 use Rattle.rules.specs.Run.{run}
-use Rattle.rules.specs.Sums.{least_big_c, most_big_c, least_c, most_c, most_product}
-use Rattle.rules.specs.History.{configuration_of, setup_in_force, turned_in, since_module_start, up_to_step, movements, total, window_total, running_total, c_of, big_c_of, update_at, conditions_in, last_raw}
+use Rattle.rules.specs.Sums.{least_big_c, most_big_c, least_c, most_c, most_product, most_tenths, most_counted, most_doubled}
+use Rattle.rules.specs.History.{configuration_of, setup_in_force, turned_in, since_module_start, up_to_step, movements, total, window_total, running_total, c_of, big_c_of, update_at, tenths_at, tenths_in, conditions_in, group_step_in, last_raw}
 use Rattle.rules.proofs.Laws.{minus, modulo_below, add_differences}
 use Rattle.rules.proofs.Windows.{held_c, last_of, movement_is, biased_below, WindowLink, big_c_is, updates_is, long_some, long_small}
+use Rattle.rules.proofs.Tenths.{magnitude_within, tenths_within, stop_is}
 use Rattle.rules.proofs.Ranges.{ranges}
 use Rattle.rules.proofs.Agreement.{agrees}
 
@@ -138,6 +140,40 @@ sums_within model l =
       big_c = λ fast. swing_between 2520 least_big_c most_big_c _ (le_z_yes tt) (le_z_yes tt) (swing_full (window_steps fast) 2520 (long_some fast) (long_small fast) qs);
       long = λ fast. swing_between 2520 least_big_c most_big_c _ (le_z_yes tt) (le_z_yes tt) (swing_running (window_steps fast) 2520 (long_some fast) (long_small fast) qs);
     }
+
+-- ---- The speed
+
+pub magnitude_in : (fast : Bool) (qs : List ℕ) → nat_abs (big_c_of fast qs) ≤ 512 * window_steps fast
+unfolding big_c_of
+magnitude_in fast qs =
+    let w : ℕ = window_steps fast in
+    let k = swing_full w w (long_some fast) (omega arith) qs in
+    rw (k.is, minus k.number (512 * w)) (magnitude_within w k.number k.below)
+
+-- In a step after the calls `l`: |C| × 600,000, the tenths, and what is made of these for Tach.
+pub record SpeedWithin (model : Model) (l : List Call) (s : Sample) : Type 0 where
+  pub counted : nat_abs (big_c_of (setup_in_force model l).fast (up_to_step model l s)) * 600000 ≤ most_counted
+  pub tenths : tenths_in model l s ≤ most_tenths
+  pub doubled : 2 * (tenths_in model l s * (setup_in_force model l).scalars.multiplier) ≤ most_doubled
+
+pub speed_within : (model : Model) (l : List Call) (s : Sample) → SpeedWithin model l s
+unfolding tenths_in tenths_at
+speed_within model l s =
+    let u : Setup = setup_in_force model l in
+    let c = magnitude_in u.fast (up_to_step model l s) in
+    let t = tenths_within u.fast _ c in
+    record {
+      counted = let b = long_small u.fast in omega arith;
+      tenths = t;
+      doubled = omega (arith, mul-le-mul {n₂ = 1500000} {m₂ = 1100} t (ranges model l).setup.multiplier);
+    }
+
+-- A group's step is a stop exactly in an update with C 0.
+pub stop_in : (model : Model) (l : List Call) (s : Sample) (n : ℕ)
+    → (stops (group_step_in model n l s).event ≡ true)
+    ↔ ((update_at (setup_in_force model l).fast (up_to_step model l s) ≡ true) × (big_c_of (setup_in_force model l).fast (up_to_step model l s) ≡ pos 0))
+unfolding stops group_step_in group_event conditions_in conditions tenths_in tenths_at
+stop_in model l s n = stop_is (setup_in_force model l).fast _ _
 
 -- ---- What a step's switches read
 

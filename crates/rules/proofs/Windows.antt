@@ -17,10 +17,11 @@ use Rattle.rules.specs.declared.Last.{Last}
 use Rattle.rules.specs.declared.Window.{Window}
 use Rattle.rules.specs.declared.Speed.{Speed}
 use Rattle.rules.specs.Words.{modulo, round_half_up}
-use Rattle.rules.specs.Motion.{movement, window_steps, window_time, short_steps, rpm_of, unbiased, c_value, biased_c}
-use Rattle.rules.specs.Card.{biased_movement, updates, window_sum, window_after, c_after, rpm_after, speed_after, fresh_window, fresh_speed}
-use Rattle.rules.specs.History.{movement_from, movements, total, window_total, c_of, big_c_of, rpm_at, update_at}
+use Rattle.rules.specs.Motion.{movement, window_steps, window_time, short_steps, tenths_of, unbiased, c_value, biased_c}
+use Rattle.rules.specs.Card.{biased_movement, updates, window_sum, window_after, c_after, tenths_after, speed_after, fresh_window, fresh_speed}
+use Rattle.rules.specs.History.{movement_from, movements, total, window_total, c_of, big_c_of, tenths_at, update_at}
 use Rattle.rules.proofs.Laws.{modulo_below, minus, add_differences}
+use Rattle.rules.proofs.Tenths.{magnitude_within, tenths_within}
 
 -- what a number stands for is held by that number
 pub held_c : (n : ℕ) → biased_c (c_value n) ≡ n
@@ -128,6 +129,10 @@ module _ (w : ℕ) (some : 0 < w) (small : w ≤ 2520) (h : List ℤ) (x : Windo
               })
         ]
 
+    -- the number of a full window is at most 1023 for each step
+    pub update_within : updates w x ≡ true → window_sum x m ≤ 1023 * w
+    update_within e = let l = last e in let i = k.within in let s = k.steps in rw sum_is (omega arith)
+
     -- what an update gives, and what stands between updates
     pub value_is : (v : ℤ) → v ≡ window_total w h → cond (updates w x) (sub_ℕ (window_sum x m) (512 * w)) v ≡ window_total w (z ∷ h)
     unfolding window_total
@@ -152,7 +157,7 @@ pub record SpeedLink (fast : Bool) (x : Speed) (qs : List ℕ) : Type 0 where
   pub short : WindowLink short_steps (movements qs) x.short
   pub long : WindowLink (window_steps fast) (movements qs) x.long
   pub c : c_value x.c ≡ c_of qs
-  pub rpm : x.rpm ≡ rpm_at fast qs
+  pub tenths : x.tenths ≡ tenths_at fast qs
 
 short_some : 0 < short_steps
 short_some = lit< tt
@@ -194,18 +199,26 @@ module _ (u : Setup) (x : Speed) (qs : List ℕ) (k : SpeedLink u.fast x qs) (q 
   pub c_held : c_after x m ≡ biased_c (c_of (q ∷ qs))
   c_held = sym (held_c (c_after x m)) ∙ ap biased_c c_is
 
-  pub rpm_is : rpm_after u.fast x m ≡ rpm_at u.fast (q ∷ qs)
-  unfolding rpm_after rpm_at big_c_of movements
-  rpm_is =
-      go (updates (window_steps u.fast) x.long)
-      ∙ ap (rpm_of u.fast) (value_is (window_steps u.fast) (long_some u.fast) (long_small u.fast) (movements qs) x.long k.long m b _ refl)
-      ∙ ap (λ (z : ℤ). rpm_of u.fast (window_total (window_steps u.fast) (z ∷ movements qs))) m_is
+  -- the tenths of an update are far below 32 bits
+  fits : updates (window_steps u.fast) x.long ≡ true → tenths_of u.fast (unbiased (window_steps u.fast) (window_sum x.long m)) % 2 ^ 32 ≡ tenths_of u.fast (unbiased (window_steps u.fast) (window_sum x.long m))
+  fits e =
+      let w : ℕ = window_steps u.fast in
+      let n : ℕ = window_sum x.long m in
+      let l : n ≤ 1023 * w = update_within w (long_some u.fast) (long_small u.fast) (movements qs) x.long k.long m b e in
+      mod-eq_of_lt (omega (arith, tenths_within u.fast (unbiased w n) (magnitude_within w n l)))
+
+  pub tenths_are : tenths_after u.fast x m ≡ tenths_at u.fast (q ∷ qs)
+  unfolding tenths_after tenths_at big_c_of movements
+  tenths_are =
+      go (updates (window_steps u.fast) x.long) refl
+      ∙ ap (tenths_of u.fast) (value_is (window_steps u.fast) (long_some u.fast) (long_small u.fast) (movements qs) x.long k.long m b _ refl)
+      ∙ ap (λ (z : ℤ). tenths_of u.fast (window_total (window_steps u.fast) (z ∷ movements qs))) m_is
     where
-      go : (c : Bool)
-          → cond c (rpm_of u.fast (unbiased (window_steps u.fast) (window_sum x.long m))) x.rpm
-          ≡ rpm_of u.fast (cond c (unbiased (window_steps u.fast) (window_sum x.long m)) (window_total (window_steps u.fast) (movements qs)))
-      go true = refl
-      go false = unfold rpm_at big_c_of in k.rpm
+      go : (c : Bool) → updates (window_steps u.fast) x.long ≡ c
+          → cond c (tenths_of u.fast (unbiased (window_steps u.fast) (window_sum x.long m)) % 2 ^ 32) x.tenths
+          ≡ tenths_of u.fast (cond c (unbiased (window_steps u.fast) (window_sum x.long m)) (window_total (window_steps u.fast) (movements qs)))
+      go true e = fits e
+      go false e = unfold tenths_at big_c_of in k.tenths
 
   -- C is made in an update and not kept: the number that the step makes stands for it
   pub big_c_is : updates (window_steps u.fast) x.long ≡ true → unbiased (window_steps u.fast) (window_sum x.long m) ≡ big_c_of u.fast (q ∷ qs)
@@ -227,19 +240,19 @@ module _ (u : Setup) (x : Speed) (qs : List ℕ) (k : SpeedLink u.fast x qs) (q 
     short = rw (← m_is) (window_step short_steps short_some short_small (movements qs) x.short k.short m b);
     long = rw (← m_is) (window_step (window_steps u.fast) (long_some u.fast) (long_small u.fast) (movements qs) x.long k.long m b);
     c = c_is;
-    rpm = rpm_is;
+    tenths = tenths_are;
   }
 
 pub speed_fresh : (fast : Bool) → SpeedLink fast fresh_speed []
-unfolding last_of movements c_of big_c_of rpm_at window_total
+unfolding last_of movements c_of big_c_of tenths_at window_total
 speed_fresh fast = record {
   last = refl;
   short = window_fresh short_steps;
   long = window_fresh (window_steps fast);
   c = refl;
-  rpm = go fast;
+  tenths = go fast;
 }
   where
-    go : (f : Bool) → 0 ≡ rpm_of f (cond (ltb 0 (window_steps f)) (pos 0) (total (take (window_steps f) (drop (0 % window_steps f) []))))
-    go true = unfold window_steps rpm_of round_half_up window_time in refl
-    go false = unfold window_steps rpm_of round_half_up window_time in refl
+    go : (f : Bool) → 0 ≡ tenths_of f (cond (ltb 0 (window_steps f)) (pos 0) (total (take (window_steps f) (drop (0 % window_steps f) []))))
+    go true = unfold window_steps tenths_of round_half_up window_time in refl
+    go false = unfold window_steps tenths_of round_half_up window_time in refl

@@ -39,7 +39,7 @@ use Rattle.rules.specs.declared.Answer.{Answer}
 use Rattle.rules.specs.declared.StepResult.{StepResult}
 use Rattle.rules.specs.Words.{table, modulo}
 use Rattle.rules.specs.Variants.{model_known, model_of, model_in, group_mode, limit_switch}
-use Rattle.rules.specs.Motion.{turned, window_steps, short_steps, rpm_of, unbiased, biased_c, conditions, fault_conditions, real_inputs, scale}
+use Rattle.rules.specs.Motion.{turned, window_steps, short_steps, tenths_of, unbiased, biased_c, conditions, fault_conditions, real_inputs, scale}
 use Rattle.rules.specs.Groups.{no_group, dwell_holds, group_position, preset_shift, presets, edge, stops, running, is_open, group_event, of_group, no_position}
 use Rattle.rules.specs.Switches.{timed_steps, limit_of, owner_of, rule_at, timed_holds, pair_tests, output_words, answer_of}
 use Rattle.rules.specs.Cycle.{outcome_of, is_accepted}
@@ -65,15 +65,16 @@ window_sum w moved = (w.sum + moved) % 2 ^ 32
 unfoldable pub window_after : ℕ → Window → ℕ → Window
 window_after size w moved = cond (updates size w) (record { steps = 0; sum = 0 }) (record { steps = w.steps + 1; sum = window_sum w moved })
 
--- c as it is held, and rpm, after a step with the biased movement `moved`, where the windows are as before it
+-- c as it is held after a step with the biased movement `moved`, where the windows are as before it
 unfoldable pub c_after : Speed → ℕ → ℕ
 c_after x moved = cond (updates short_steps x.short) (window_sum x.short moved) x.c
 
-unfoldable pub rpm_after : Bool → Speed → ℕ → ℕ
-rpm_after fast x moved =
+-- The tenths after it. They are kept in 32 bits; no C of a list of calls from power-up makes them run over.
+unfoldable pub tenths_after : Bool → Speed → ℕ → ℕ
+tenths_after fast x moved =
     cond (updates (window_steps fast) x.long)
-    (rpm_of fast (unbiased (window_steps fast) (window_sum x.long moved)))
-    x.rpm
+    (tenths_of fast (unbiased (window_steps fast) (window_sum x.long moved)) % 2 ^ 32)
+    x.tenths
 
 unfoldable pub speed_after : Setup → Speed → ℕ → Speed
 speed_after u x q = record {
@@ -81,7 +82,7 @@ speed_after u x q = record {
   short = window_after short_steps x.short (biased_movement x.last q);
   long = window_after (window_steps u.fast) x.long (biased_movement x.last q);
   c = c_after x (biased_movement x.last q);
-  rpm = rpm_after u.fast x (biased_movement x.last q);
+  tenths = tenths_after u.fast x (biased_movement x.last q);
 }
 
 -- ---- A group's step
@@ -114,7 +115,7 @@ unfoldable pub qualified_now : ℕ → Group → GroupState → Event → Bool
 qualified_now sf g x e = (held_now sf g x e && running e) || (not (begins_now sf g x e) && x.qualified)
 
 -- Mode 2: "opened by a taken edge, closed by a dwell's beginning, closing first". Mode 4: "a dwell's beginning closes; an edge in the dwell opens, same step included".
--- Mode 5: "a dwell's beginning closes and forgets. A qualifying step (in the dwell, input active, rpm not 0) opens. A stop closes. An edge of the First Cycle Input .. opens
+-- Mode 5: "a dwell's beginning closes and forgets. A qualifying step (in the dwell, input active, ..) opens. A stop closes. An edge of the First Cycle Input .. opens
 -- if a qualifying step came since the dwell began"; 02: "in a step that holds both a stop and a First Cycle edge, the stop is taken first and the edge then counts if a
 -- qualifying step came since the dwell began".
 unfoldable pub opened_now : Mode → ℕ → Group → GroupState → Event → Bool
@@ -162,7 +163,7 @@ speed_now u x s = speed_after u x (turned u.reversed s.raw)
 -- what the step's groups and outputs read
 unfoldable pub conditions_now : Configuration → SinceStart → Sample → Conditions
 conditions_now g x s =
-    conditions g s (speed_now g.programming.setup x.speed s).c (speed_now g.programming.setup x.speed s).rpm
+    conditions g s (speed_now g.programming.setup x.speed s).c (speed_now g.programming.setup x.speed s).tenths
     (updates (window_steps g.programming.setup.fast) x.speed.long)
 
 -- a group, with the number n from 0, after the step; the Group Position that the step leaves, "0 for a group unused then"; whether the group is open
@@ -226,7 +227,7 @@ fresh_speed = record {
   short = fresh_window;
   long = fresh_window;
   c = biased_c (pos 0);
-  rpm = 0;
+  tenths = 0;
 }
 
 -- "Module start"

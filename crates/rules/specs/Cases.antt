@@ -27,7 +27,7 @@ use Rattle.rules.specs.declared.Bus.{Bus}
 use Rattle.rules.specs.Words.{digit, word, bits, word_of, bytes_of, table, stored_at, other_bit, any_word, signed_word, differing, forced}
 use Rattle.rules.specs.Variants.{group_mode, real_count, virtual_count, limit_switch, anded_of}
 use Rattle.rules.specs.Counts.{ahead, holds}
-use Rattle.rules.specs.Motion.{real_input, turned, scaled_position, machine_position, window_steps, tach_shown, tach_overflow, rpm_of, detects, conditions, fault_conditions, biased_c}
+use Rattle.rules.specs.Motion.{real_input, turned, scaled_position, machine_position, window_steps, tach_shown, tach_overflow, tenths_of, is_stop, detects, conditions, fault_conditions, biased_c}
 use Rattle.rules.specs.Groups.{group_position, group_event, is_open}
 use Rattle.rules.specs.Switches.{moved, pair_length, pair_holds, normal_holds, pulse_holds, present, admitted, enable_holds, detector_holds, switch_tests, tests_at, pair_tests, output_words, changed_count, answer_of}
 use Rattle.rules.specs.Cycle.{number_of, outcome_number, outcome_of, with_programming, error_of}
@@ -44,9 +44,9 @@ use Rattle.rules.specs.Trace.{decimal, hexadecimal, section_count, file_of, tran
 
 -- A line of the table: what is given, and at the end what 01 says comes of it. SF is 1024 in the lettered ones.
 pub data Case : Type 0 where
-  -- rpm, multiplier, divisor less one, code: the tachometer's reading
-  tach : (rpm multiplier divider code says : ℕ) → Case
-  -- TResp, C: rpm
+  -- tenths of an rpm, multiplier, divisor less one, code: the tachometer's reading
+  tach : (tenths multiplier divider code says : ℕ) → Case
+  -- TResp, C: tenths of an rpm
   speed : (fast : Bool) (c : ℤ) (says : ℕ) → Case
   -- advance, c, setpoint: where the setpoint acts
   advance : (a c : ℤ) (setpoint says : ℕ) → Case
@@ -67,14 +67,14 @@ pub data Case : Type 0 where
 
 unfoldable pub lettered : List Case
 lettered =
-    -- a) Tach for 100 rpm, 2, 3, codes 0 to 3: 67, 7, 1, 0
-    tach 100 2 2 0 67
-    ∷ tach 100 2 2 1 7
-    ∷ tach 100 2 2 2 1
-    ∷ tach 100 2 2 3 0
-    -- b) C 1024, W 120: 500 rpm; W 504: 119
-    ∷ speed true (pos 1024) 500
-    ∷ speed false (pos 1024) 119
+    -- a) Tach for .., 2, 3, codes 0 to 3: 67, 7, 1, 0; 02: "Tach starts from the tenths", here 1000
+    tach 1000 2 2 0 67
+    ∷ tach 1000 2 2 1 7
+    ∷ tach 1000 2 2 2 1
+    ∷ tach 1000 2 2 3 0
+    -- b) C 1024, W 120: ..; W 504: ..; 02: "01's cases b read 5000 and 1190"
+    ∷ speed true (pos 1024) 5000
+    ∷ speed false (pos 1024) 1190
     -- c) SF 1024, a 100, c 48: ON 100 acts at 80; c −48: 120
     ∷ advance (pos 100) (pos 48) 100 80
     ∷ advance (pos 100) (negsuc 47) 100 120
@@ -122,7 +122,7 @@ mode4_group on off =
     record { used = true; isvirtual = true; firstvirtual = true; mode = 4; quantity = 1; dwell = record { on = on; off = off }; offset = 0 }
 
 unfoldable pub step_event : ℕ → Bool → Event
-step_event p level = record { machine = record { 0 = p }; level = level; first = false; rpm = 60; update = false }
+step_event p level = record { machine = record { 0 = p }; level = level; first = false; tenths = 60; update = false }
 
 unfoldable pub openings : Group → GroupState → List (ℕ × Bool) → List Bool
 openings g x [] = []
@@ -146,16 +146,16 @@ sample_of ws = record {
   virtualoff = word ws 8;
 }
 
--- what a step reads, with SF 1000: MType, the words of active inputs, rpm, the detectors
+-- what a step reads, with SF 1000: MType, the words of active inputs, tenths, the detectors
 abbrev pub reads : Bool → ℕ → ℕ → ℕ → Bool → Bool → Conditions
-reads independent real virtuals rpm md1 md2 = record {
+reads independent real virtuals tenths md1 md2 = record {
   top = 999;
   independent = independent;
   machine = record { 0 = 500 };
   real = real;
   virtuals = virtuals;
   c = biased_c (pos 0);
-  rpm = rpm;
+  tenths = tenths;
   update = true;
   md1 = md1;
   md2 = md2;
@@ -264,7 +264,7 @@ nudge_is10 on off w = nudge_setpoint_bad 1000 (switch_at 1 0 0 0 (on ∷ off ∷
 -- the numbers of an answer, 11 or 0 first
 abbrev pub answer_numbers : Answer → List ℕ
 answer_numbers a =
-    cond a.refused (number_of Transducer) 0 ∷ a.position.0 ∷ a.rpm ∷ a.tach ∷ digit a.overflow ∷ digit a.md1 ∷ digit a.md2 ∷ a.real ∷ a.virtuals ∷ a.changed ∷ a.tests ∷ []
+    cond a.refused (number_of Transducer) 0 ∷ a.position.0 ∷ a.tenths ∷ a.tach ∷ digit a.overflow ∷ digit a.md1 ∷ digit a.md2 ∷ a.real ∷ a.virtuals ∷ a.changed ∷ a.tests ∷ []
 
 -- SUErr, GPErr, LSErr, I/DNum and I/DSet, and the word with these bits
 abbrev pub errors_of : Bool → Bool → Bool → Bool → Bool → Errors
@@ -306,23 +306,30 @@ of_motion =
     ∷ numbers ((machine_position (setup_by 0 0x8000 0) 1023).0 ∷ (machine_position (setup_by 0 0x8000 0) 2).0 ∷ (machine_position (setup_by 0 0x8010 0) 1022).0 ∷ []) (11 ∷ 13 ∷ 13 ∷ [])
     -- "every 600th (TResp 1) or 2520th step"
     ∷ numbers (map window_steps (true ∷ false ∷ [])) (600 ∷ 2520 ∷ [])
-    -- "rpm × multiplier / (divisor × 10^code)": 15000 rpm, 2, 1, codes 0 to 3
-    ∷ numbers (map (λ (code : ℕ). tach_shown (record { multiplier = 2; divider = 0; code = code }) 15000) (0 ∷ 1 ∷ 2 ∷ 3 ∷ [])) (30000 ∷ 3000 ∷ 300 ∷ 30 ∷ [])
-    -- "rpm = |C| × 60000 / (1024 × W), rounded half up": the most, half a turn a step, and the least that is not 0
-    ∷ numbers (map (rpm_of true) (pos 307200 ∷ negsuc 307199 ∷ pos 1 ∷ pos 2 ∷ []) ++ map (rpm_of false) (pos 1290240 ∷ pos 4 ∷ negsuc 4 ∷ [])) (150000 ∷ 150000 ∷ 0 ∷ 1 ∷ 150000 ∷ 0 ∷ 1 ∷ [])
+    -- "multiplier / (divisor × 10^code)", "Tach starts from the tenths": 150000 of them, 2, 1, codes 0 to 3
+    ∷ numbers (map (λ (code : ℕ). tach_shown (record { multiplier = 2; divider = 0; code = code }) 150000) (0 ∷ 1 ∷ 2 ∷ 3 ∷ [])) (30000 ∷ 3000 ∷ 300 ∷ 30 ∷ [])
+    -- "still rounded half up once": 0.45, which is not 4.5 rounded and then a tenth of it; 1.4 times 3; C 3 at W 504 with multiplier 1100
+    ∷ tach 45 1 0 1 0
+    ∷ tach 14 3 0 0 4
+    ∷ tach (tenths_of false (pos 3)) 1100 0 0 330
+    -- "in tenths of an rpm, rounded half up once": the most, half a turn a step, and the least that are not 0
+    ∷ numbers (map (tenths_of true) (pos 307200 ∷ negsuc 307199 ∷ pos 0 ∷ pos 1 ∷ pos 2 ∷ []) ++ map (tenths_of false) (pos 1290240 ∷ pos 0 ∷ pos 1 ∷ pos 4 ∷ negsuc 4 ∷ []))
+    (1500000 ∷ 1500000 ∷ 0 ∷ 5 ∷ 10 ∷ 1500000 ∷ 0 ∷ 1 ∷ 5 ∷ 6 ∷ [])
+    -- "A stop is now an update of 0 tenths": C 1 at W 120 is none
+    ∷ tests (map (is_stop true) (0 ∷ 1 ∷ tenths_of true (pos 1) ∷ []) ++ map (is_stop false) (0 ∷ 1 ∷ [])) (true ∷ false ∷ false ∷ false ∷ false ∷ [])
     -- "above 32767 it reads 32767 with TachOv set"
-    ∷ numbers (map (tach_shown (record { multiplier = 1; divider = 0; code = 0 })) (32766 ∷ 32767 ∷ 32768 ∷ [])) (32766 ∷ 32767 ∷ 32767 ∷ [])
-    ∷ tests (map (tach_overflow (record { multiplier = 1; divider = 0; code = 0 })) (32766 ∷ 32767 ∷ 32768 ∷ [])) (false ∷ false ∷ true ∷ [])
-    -- "low ≤ rpm ≤ high", "rpm ≤ high or rpm ≥ low", "0/0 never"
-    ∷ tests (map (detects (record { low = 100; high = 200 })) (0 ∷ 99 ∷ 100 ∷ 200 ∷ 201 ∷ [])) (false ∷ false ∷ true ∷ true ∷ false ∷ [])
-    ∷ tests (map (detects (record { low = 200; high = 100 })) (0 ∷ 100 ∷ 101 ∷ 199 ∷ 200 ∷ [])) (true ∷ true ∷ false ∷ false ∷ true ∷ [])
+    ∷ numbers (map (tach_shown (record { multiplier = 1; divider = 0; code = 0 })) (327664 ∷ 327665 ∷ 327674 ∷ 327675 ∷ [])) (32766 ∷ 32767 ∷ 32767 ∷ 32767 ∷ [])
+    ∷ tests (map (tach_overflow (record { multiplier = 1; divider = 0; code = 0 })) (327664 ∷ 327665 ∷ 327674 ∷ 327675 ∷ [])) (false ∷ false ∷ false ∷ true ∷ [])
+    -- "low ≤ .. ≤ high", ".. ≤ high or .. ≥ low", "0/0 never", in tenths
+    ∷ tests (map (detects (record { low = 100; high = 200 })) (0 ∷ 999 ∷ 1000 ∷ 2000 ∷ 2001 ∷ [])) (false ∷ false ∷ true ∷ true ∷ false ∷ [])
+    ∷ tests (map (detects (record { low = 200; high = 100 })) (0 ∷ 1000 ∷ 1001 ∷ 1999 ∷ 2000 ∷ [])) (true ∷ true ∷ false ∷ false ∷ true ∷ [])
     ∷ tests (map (detects (record { low = 0; high = 0 })) (0 ∷ 1 ∷ [])) (false ∷ false ∷ [])
-    ∷ tests (map (detects (record { low = 0; high = 50 })) (0 ∷ 50 ∷ 51 ∷ []) ++ map (detects (record { low = 50; high = 0 })) (0 ∷ 1 ∷ 50 ∷ [])) (true ∷ true ∷ false ∷ true ∷ false ∷ true ∷ [])
+    ∷ tests (map (detects (record { low = 0; high = 50 })) (0 ∷ 500 ∷ 501 ∷ 503 ∷ []) ++ map (detects (record { low = 50; high = 0 })) (0 ∷ 1 ∷ 499 ∷ 500 ∷ [])) (true ∷ true ∷ false ∷ false ∷ true ∷ false ∷ false ∷ true ∷ [])
     -- "0, 8 or 16 real inputs and outputs. All have 16 virtual ones"
     ∷ numbers (map real_count (M8511 ∷ M8512 ∷ M8513 ∷ []) ++ map virtual_count (M8511 ∷ M8512 ∷ M8513 ∷ [])) (0 ∷ 8 ∷ 16 ∷ 16 ∷ 16 ∷ 16 ∷ [])
-    -- MD1 13/14 and MD2 15/16 at 14 and 15 rpm
-    ∷ tests (map (λ (rpm : ℕ). (conditions (with_programming (fresh_configuration M8513) (no_programs (setup_by 0 0x8000 0))) (sample_of []) (biased_c (pos 0)) rpm false).md1) (14 ∷ 15 ∷ [])) (true ∷ false ∷ [])
-    ∷ tests (map (λ (rpm : ℕ). (conditions (with_programming (fresh_configuration M8513) (no_programs (setup_by 0 0x8000 0))) (sample_of []) (biased_c (pos 0)) rpm false).md2) (14 ∷ 15 ∷ [])) (false ∷ true ∷ [])
+    -- MD1 13/14 and MD2 15/16 at 140 and 150 tenths
+    ∷ tests (map (λ (tenths : ℕ). (conditions (with_programming (fresh_configuration M8513) (no_programs (setup_by 0 0x8000 0))) (sample_of []) (biased_c (pos 0)) tenths false).md1) (140 ∷ 150 ∷ [])) (true ∷ false ∷ [])
+    ∷ tests (map (λ (tenths : ℕ). (conditions (with_programming (fresh_configuration M8513) (no_programs (setup_by 0 0x8000 0))) (sample_of []) (biased_c (pos 0)) tenths false).md2) (140 ∷ 150 ∷ [])) (false ∷ true ∷ [])
     ∷ []
 
 unfoldable pub of_groups : List Case
@@ -414,10 +421,10 @@ of_switches =
     (0x00fb ∷ 0xffdf ∷ [])
     -- "with SLCINT set, how many virtual outputs changed .., else 0"
     ∷ numbers (changed_count (setup_by 0 0x8100 0) 0x8001 0x0003 ∷ changed_count (setup_by 0 0x8000 0) 0x8001 0x0003 ∷ []) (2 ∷ 0 ∷ [])
-    -- the answer's parts in their places: rpm 300 with multiplier 17, divisor 18 and code 2 is tach 3
-    ∷ numbers (answer_numbers (answer_of (setup_by 0 0x8100 0) false (reads false 0 0 300 true false) 0x0001 (record { real = 7; virtuals = 0x0006 }) 9)) (0 ∷ 500 ∷ 300 ∷ 3 ∷ 0 ∷ 1 ∷ 0 ∷ 7 ∷ 6 ∷ 3 ∷ 9 ∷ [])
+    -- the answer's parts in their places: 3000 tenths with multiplier 17, divisor 18 and code 2 is tach 3
+    ∷ numbers (answer_numbers (answer_of (setup_by 0 0x8100 0) false (reads false 0 0 3000 true false) 0x0001 (record { real = 7; virtuals = 0x0006 }) 9)) (0 ∷ 500 ∷ 3000 ∷ 3 ∷ 0 ∷ 1 ∷ 0 ∷ 7 ∷ 6 ∷ 3 ∷ 9 ∷ [])
     ∷ numbers (answer_numbers (answer_of (setup_by 0 0x8100 0) false (reads false 0 0 40000000 false true) 0x0001 (record { real = 7; virtuals = 0x0006 }) 256)) (0 ∷ 500 ∷ 40000000 ∷ 32767 ∷ 1 ∷ 0 ∷ 1 ∷ 7 ∷ 6 ∷ 3 ∷ 256 ∷ [])
-    -- 11: "the Machine Position of the last step ..; rpm, tach and TachOv 0; detectors .. off"; the count is that of its own outputs
+    -- 11: "the Machine Position of the last step ..; .. tach and TachOv 0; detectors .. off"; the count is that of its own outputs
     ∷ numbers (answer_numbers (answer_of (setup_by 0 0x8100 0) true (fault_conditions (fresh_configuration M8513) (sample_of (2000 ∷ [])) (record { 0 = 77 })) 0x0003 (record { real = 0; virtuals = 0x0100 }) 0))
     (11 ∷ 77 ∷ 0 ∷ 0 ∷ 0 ∷ 0 ∷ 0 ∷ 0 ∷ 0x0100 ∷ 3 ∷ 0 ∷ [])
     ∷ []
@@ -614,7 +621,7 @@ flags f = record {
 -- what a step showed whose answer and inputs are these numbers, its bits as f says
 unfoldable pub showing : (ℕ → Bool) → List ℕ → Shown
 showing f ws =
-    shown_by (record { refused = false; position = record { 0 = word ws 0 }; rpm = 0x9999; tach = word ws 1; overflow = f 10; md1 = f 8; md2 = f 9; real = word ws 2; virtuals = word ws 3; changed = 0x99; tests = 0x99 }) (word ws 4)
+    shown_by (record { refused = false; position = record { 0 = word ws 0 }; tenths = 0x9999; tach = word ws 1; overflow = f 10; md1 = f 8; md2 = f 9; real = word ws 2; virtuals = word ws 3; changed = 0x99; tests = 0x99 }) (word ws 4)
 
 unfoldable pub bus_bits : Bus → List Bool
 bus_bits b = b.request ∷ b.mask ∷ []
@@ -673,9 +680,9 @@ cases = lettered ++ of_words ++ of_motion ++ of_groups ++ of_lengths ++ of_switc
 
 -- what a line says of the definitions
 abbrev pub Says : Case → Type 0
-Says (tach rpm multiplier divider code says) =
-    tach_shown (record { multiplier = multiplier; divider = divider; code = code }) rpm ≡ says
-Says (speed fast c says) = rpm_of fast c ≡ says
+Says (tach tenths multiplier divider code says) =
+    tach_shown (record { multiplier = multiplier; divider = divider; code = code }) tenths ≡ says
+Says (speed fast c says) = tenths_of fast c ≡ says
 Says (advance a c setpoint says) = moved 1024 a c setpoint ≡ says
 Says (pulses on off q k says) =
     positions_with 1024 0 (λ p. pulse_holds 1024 (pos 0) (switch_at 2 q k 0 (on ∷ off ∷ [])) q k (OfMachine (record { 0 = p }))) ≡ says

@@ -55,7 +55,7 @@ group_event w g n = record {
   machine = w.machine;
   level = level w (group_type g) (group_input n);
   first = level w (first_cycle_type g) first_cycle_input;
-  rpm = w.rpm;
+  tenths = w.tenths;
   update = w.update;
 }
 
@@ -69,11 +69,11 @@ no_position = record { 0 = 0 }
 
 -- a stop in an event
 unfoldable pub stops : Event → Bool
-stops e = is_stop e.update e.rpm
+stops e = is_stop e.update e.tenths
 
--- what makes a step in the dwell "A qualifying step (in the dwell, input active, rpm not 0)"
+-- what makes a step in the dwell "A qualifying step (in the dwell, input active, ..)"; 02: "Mode 5 qualifies on tenths that aren't 0"
 unfoldable pub running : Event → Bool
-running e = e.level && not (eqb e.rpm 0)
+running e = e.level && not (eqb e.tenths 0)
 
 -- "Modes 0, 1: always open." "Mode 3: open while its input is active." Modes 2, 4 and 5 are open by what came before (`opened`).
 unfoldable pub is_open : Mode → Bool → Bool → Bool

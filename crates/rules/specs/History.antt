@@ -25,7 +25,7 @@ use Rattle.rules.specs.declared.Answer.{Answer}
 use Rattle.rules.specs.Words.{table}
 use Rattle.rules.specs.Variants.{group_mode, limit_switch}
 use Rattle.rules.specs.Counts.{ahead}
-use Rattle.rules.specs.Motion.{scale_factor, turned, machine_at, movement, window_steps, short_steps, rpm_of, biased_c, conditions, fault_conditions}
+use Rattle.rules.specs.Motion.{scale_factor, turned, machine_at, movement, window_steps, short_steps, tenths_of, biased_c, conditions, fault_conditions}
 use Rattle.rules.specs.Groups.{group_at, dwell_holds, group_position, presets, edge, stops, running, group_event, of_group, no_position}
 use Rattle.rules.specs.Switches.{timed_steps, limit_of, owner_of, timed_holds, rule_at, pair_tests, output_words, answer_of}
 use Rattle.rules.specs.Cycle.{number_of, outcome_number, is_accepted}
@@ -120,28 +120,28 @@ window_total size h = cond (ltb (length h) size) (pos 0) (total (take size (drop
 unfoldable pub c_of : List ℕ → ℤ
 c_of qs = window_total short_steps (movements qs)
 
--- "At every 600th (TResp 1) or 2520th step, C is the sum over that window .., and rpm = |C| × 60000 / (1024 × W), rounded half up (0 earlier)."
+-- "At every 600th (TResp 1) or 2520th step, C is the sum over that window", and the speed that of C ("0 earlier")
 unfoldable pub big_c_of : Bool → List ℕ → ℤ
 big_c_of fast qs = window_total (window_steps fast) (movements qs)
 
-unfoldable pub rpm_at : Bool → List ℕ → ℕ
-rpm_at fast qs = rpm_of fast (big_c_of fast qs)
+unfoldable pub tenths_at : Bool → List ℕ → ℕ
+tenths_at fast qs = tenths_of fast (big_c_of fast qs)
 
 -- the sum of the movements since the window's beginning, that is after the last step whose number is a multiple of `size`
 unfoldable pub running_total : ℕ → List ℤ → ℤ
 running_total size h = total (take (length h % size) h)
 
--- the step is one in which rpm is updated
+-- the step is one in which the speed is updated
 unfoldable pub update_at : Bool → List ℕ → Bool
 update_at fast qs = eqb (length qs % window_steps fast) 0
 
-unfoldable pub rpm_in : Model → List Call → Sample → ℕ
-rpm_in model l s = rpm_at (setup_in_force model l).fast (up_to_step model l s)
+unfoldable pub tenths_in : Model → List Call → Sample → ℕ
+tenths_in model l s = tenths_at (setup_in_force model l).fast (up_to_step model l s)
 
 -- what the groups and outputs read of a step not answered 11
 unfoldable pub conditions_in : Model → List Call → Sample → Conditions
 conditions_in model l s =
-    conditions (configuration_of model l) s (biased_c (c_of (up_to_step model l s))) (rpm_in model l s) (update_at (setup_in_force model l).fast (up_to_step model l s))
+    conditions (configuration_of model l) s (biased_c (c_of (up_to_step model l s))) (tenths_in model l s) (update_at (setup_in_force model l).fast (up_to_step model l s))
 
 -- ---- A group's past
 
@@ -186,7 +186,7 @@ unfoldable pub first_edge_at : List PastStep → Bool
 first_edge_at [] = false
 first_edge_at (s ∷ h) = edge (first_at h) s.event.first
 
--- "A stop is an update with rpm 0."
+-- 02: "A stop is now an update of 0 tenths"
 unfoldable pub stop_at : List PastStep → Bool
 stop_at [] = false
 stop_at (s ∷ h) = stops s.event
@@ -247,7 +247,7 @@ past_of (s ∷ h) = record {
 unfoldable pub latest_dwell_saw : (List PastStep → Bool) → List PastStep → Bool
 latest_dwell_saw X h = latest_saw begins_at dwell_at X h
 
--- "A qualifying step (in the dwell, input active, rpm not 0)"
+-- "A qualifying step (in the dwell, input active, ..)"; 02: "Mode 5 qualifies on tenths that aren't 0, and its history follows."
 unfoldable pub qualifies_at : List PastStep → Bool
 qualifies_at h = dwell_at h && running_at h
 

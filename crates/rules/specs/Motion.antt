@@ -1,4 +1,4 @@
--- 01, "Module and sample" and "Speed": inputs, positions, movement, rpm, tachometer, detectors, and what a step's groups and outputs read. No past.
+-- 01, "Module and sample" and "Speed": inputs, positions, movement, speed, tachometer, detectors, and what a step's groups and outputs read. No past.
 -- Assumes nothing.
 use Rattle.std.specs.Prelude.{ℕ, ◌+◌, ◌*◌, ◌/◌, ◌%◌, ◌^◌, Bool, false, cond, not, ◌&&◌, ◌||◌, ltb, leb, eqb, ℤ, pos, nat_abs, ◌+ℤ◌, ◌-ℤ◌}
 use Rattle.std.specs.Bool.{beq}
@@ -57,34 +57,35 @@ window_time fast = cond fast 120 504
 abbrev pub short_steps : ℕ
 short_steps = 120
 
--- "rpm = |C| × 60000 / (1024 × W), rounded half up"
-unfoldable pub rpm_of : Bool → ℤ → ℕ
-rpm_of fast c = round_half_up (nat_abs c * 60000) (1024 * window_time fast)
+-- 02: "The speed is to be worked out in tenths of an rpm, rounded half up once": ten times 01's "|C| × 60000 / (1024 × W)"
+unfoldable pub tenths_of : Bool → ℤ → ℕ
+tenths_of fast c = round_half_up (nat_abs c * 600000) (1024 * window_time fast)
 
--- "A stop is an update with rpm 0."
+-- 02: "A stop is now an update of 0 tenths"
 unfoldable pub is_stop : Bool → ℕ → Bool
-is_stop update rpm = update && eqb rpm 0
+is_stop update tenths = update && eqb tenths 0
 
 -- the divisor, and 10^code
 abbrev pub divisor : Scalars → ℕ
 divisor k = k.divider + 1
 
--- "Tach = rpm × multiplier / (divisor × 10^code), rounded half up from the exact quotient"
+-- 02: "Tach starts from the tenths and is still rounded half up once": 01's "multiplier / (divisor × 10^code), rounded half up from the exact quotient", and a ten more
 unfoldable pub tach_value : Scalars → ℕ → ℕ
-tach_value k rpm = round_half_up (rpm * k.multiplier) (divisor k * 10 ^ code_number (code_of k.code))
+tach_value k tenths = round_half_up (tenths * k.multiplier) (divisor k * 10 ^ (code_number (code_of k.code) + 1))
 
 -- "above 32767 it reads 32767 with TachOv set"
 unfoldable pub tach_shown : Scalars → ℕ → ℕ
-tach_shown k rpm = cond (ltb 32767 (tach_value k rpm)) 32767 (tach_value k rpm)
+tach_shown k tenths = cond (ltb 32767 (tach_value k tenths)) 32767 (tach_value k tenths)
 
 unfoldable pub tach_overflow : Scalars → ℕ → Bool
-tach_overflow k rpm = ltb 32767 (tach_value k rpm)
+tach_overflow k tenths = ltb 32767 (tach_value k tenths)
 
--- "A detector with low ≤ high is on where low ≤ rpm ≤ high; with low > high, where rpm ≤ high or rpm ≥ low; 0/0 never."
+-- "A detector with low ≤ high is on where low ≤ .. ≤ high; with low > high, where .. ≤ high or .. ≥ low; 0/0 never."
+-- 02: "Detectors compare tenths with ten times their setpoints."
 unfoldable pub detects : Detector → ℕ → Bool
-detects d rpm =
+detects d tenths =
     not (eqb d.low 0 && eqb d.high 0)
-    && cond (leb d.low d.high) (leb d.low rpm && leb rpm d.high) (leb rpm d.high || leb d.low rpm)
+    && cond (leb d.low d.high) (leb (10 * d.low) tenths && leb tenths (10 * d.high)) (leb tenths (10 * d.high) || leb (10 * d.low) tenths)
 
 -- 02: "the movement sums .. are to be held in 32 bits inside". A sum of movements is held as one number, 512 added for each of its `steps` steps: the signed sum that a number stands for.
 abbrev pub unbiased : ℕ → ℕ → ℤ
@@ -103,27 +104,27 @@ biased_c c = nat_abs (c +ℤ pos (512 * short_steps))
 unfoldable pub real_inputs : Configuration → Sample → ℕ
 real_inputs g s = word_of 0 (real_input (model_in g) g.programming.setup s)
 
--- of a step at which Machine Position is `machine`, c is held as `c`, rpm is `rpm` and was updated or not, and the detectors are as given
+-- of a step at which Machine Position is `machine`, c is held as `c`, the speed is `tenths` and was updated or not, and the detectors are as given
 abbrev pub conditions_with : Configuration → Sample → MachinePosition → ℕ → ℕ → Bool → Bool → Bool → Conditions
-conditions_with g s machine c rpm update md1 md2 = record {
+conditions_with g s machine c tenths update md1 md2 = record {
   top = g.programming.setup.top;
   independent = g.programming.setup.independent;
   machine = machine;
   real = real_inputs g s;
   virtuals = s.virtuals;
   c = c;
-  rpm = rpm;
+  tenths = tenths;
   update = update;
   md1 = md1;
   md2 = md2;
 }
 
--- of a step not answered 11, where c is held as `c` and rpm is `rpm` and was updated or not
+-- of a step not answered 11, where c is held as `c`, and the speed is `tenths` and was updated or not
 unfoldable pub conditions : Configuration → Sample → ℕ → ℕ → Bool → Conditions
-conditions g s c rpm update =
-    conditions_with g s (machine_at g s) c rpm update (detects g.programming.setup.md1 rpm) (detects g.programming.setup.md2 rpm)
+conditions g s c tenths update =
+    conditions_with g s (machine_at g s) c tenths update (detects g.programming.setup.md1 tenths) (detects g.programming.setup.md2 tenths)
 
--- 11: "reports the Machine Position of the last step since power-up not answered 11, else 0; rpm, tach and TachOv 0; detectors .. off"
+-- 11: "reports the Machine Position of the last step since power-up not answered 11, else 0; .. tach and TachOv 0; detectors .. off"; 02: "The rpm in the answer becomes tenths", 0 as well
 unfoldable pub fault_conditions : Configuration → Sample → MachinePosition → Conditions
 fault_conditions g s last = conditions_with g s last (biased_c (pos 0)) 0 false false false
 

@@ -1,4 +1,4 @@
--- 02, request 4/14: the bounds of the movement sums and of the scaled position's product, and two lists of calls that reach those of C.
+-- 02, request 4/14: the bounds of the movement sums and of the scaled position's product, and two lists of calls that reach those of C. With 10/14, those of the speed.
 -- Assumes nothing.
 use Rattle.std.specs.Prelude.{ℕ, zero, suc, ◌*◌, ◌%◌, List, [], ◌∷◌, ℤ, pos, neg_ℤ}
 use Rattle.rules.specs.declared.Sample.{Sample}
@@ -21,6 +21,17 @@ most_c = pos 61320
 -- "the scaled position with its product": q × SF
 abbrev pub most_product : ℕ
 most_product = 1047552
+
+-- 02, 10/14: the speed "in tenths of an rpm" of half a turn in each step
+abbrev pub most_tenths : ℕ
+most_tenths = 1500000
+
+-- what is made on the way: |C| × 600,000, and for Tach the tenths times the multiplier, doubled to round half up
+abbrev pub most_counted : ℕ
+most_counted = 774144000000
+
+abbrev pub most_doubled : ℕ
+most_doubled = 3300000000
 
 -- a sample with nothing but a raw position
 abbrev pub sample_at : ℕ → Sample

@@ -216,15 +216,16 @@ changed_count u before after = cond u.interrupt (differing before after) 0
 unfoldable pub output_words : Model → Sample → (ℕ → Bool) → OutputWords
 output_words model s rule = record { real = word_of 0 (output_on model s rule); virtuals = word_of 16 (output_on model s rule) }
 
--- "A step answers Machine Position, rpm, tach, TachOv, detectors, both output words and .. how many virtual outputs changed"; rpm 0 gives tach and TachOv 0.
+-- "A step answers Machine Position, .. tach, TachOv, detectors, both output words and .. how many virtual outputs changed"; 0 tenths give tach and TachOv 0.
+-- 02: "The rpm in the answer becomes tenths"
 -- 02: "the number of pair tests in each step's answer"
 unfoldable pub answer_of : Setup → Bool → Conditions → ℕ → OutputWords → ℕ → Answer
 answer_of u refused w before outputs tests = record {
   refused = refused;
   position = w.machine;
-  rpm = w.rpm;
-  tach = tach_shown u.scalars w.rpm;
-  overflow = tach_overflow u.scalars w.rpm;
+  tenths = w.tenths;
+  tach = tach_shown u.scalars w.tenths;
+  overflow = tach_overflow u.scalars w.tenths;
   md1 = w.md1;
   md2 = w.md2;
   real = outputs.real;

@@ -232,7 +232,7 @@ pub struct Window {
     pub sum: u32,
 }
 
-// The speed: the windows of c and of C, c with the 512 of each of its 120 steps added, and rpm.
+// The speed: the windows of c and of C, c with the 512 of each of its 120 steps added, and tenths of an rpm.
 #[repr(C)]
 #[derive(Clone, Copy)]
 pub struct Speed {
@@ -240,7 +240,7 @@ pub struct Speed {
     pub short: Window,
     pub long: Window,
     pub c: u32,
-    pub rpm: u32,
+    pub tenths: u32,
 }
 
 // A group since its start: its inputs' levels at the last step, whether the dwell held at its end, the shift of Modes 1 and 2, whether an edge was
@@ -338,7 +338,7 @@ pub struct Sample {
 }
 
 // What the groups, the outputs and the answer read of a step: the scale factor less one and MType in force, Machine Position, the words of the active
-// inputs after the forces, c as the speed holds it, rpm, whether rpm was updated, and the motion detectors.
+// inputs after the forces, c as the speed holds it, tenths of an rpm, whether they were updated, and the motion detectors.
 #[derive(Clone, Copy)]
 pub struct Conditions {
     pub top: u16,
@@ -347,19 +347,20 @@ pub struct Conditions {
     pub real: u16,
     pub virtuals: u16,
     pub c: u32,
-    pub rpm: u32,
+    pub tenths: u32,
     pub update: bool,
     pub md1: bool,
     pub md2: bool,
 }
 
-// What a group meets in a step: Machine Position, its input's level, its First Cycle Input's level, rpm, and whether rpm was updated.
+// What a group meets in a step: Machine Position, its input's level, its First Cycle Input's level, tenths of an rpm, and whether they were
+// updated.
 #[derive(Clone, Copy)]
 pub struct Event {
     pub machine: MachinePosition,
     pub level: bool,
     pub first: bool,
-    pub rpm: u32,
+    pub tenths: u32,
     pub update: bool,
 }
 
@@ -426,7 +427,7 @@ pub struct CycleResult {
 pub struct Answer {
     pub refused: bool,
     pub position: MachinePosition,
-    pub rpm: u32,
+    pub tenths: u32,
     pub tach: u16,
     pub overflow: bool,
     pub md1: bool,
@@ -495,7 +496,7 @@ impl Speed {
         short: Window { steps: 0, sum: 0 },
         long: Window { steps: 0, sum: 0 },
         c: Speed::C_BIAS,
-        rpm: 0,
+        tenths: 0,
     };
 }
 

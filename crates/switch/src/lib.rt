@@ -35,7 +35,7 @@ fn shift_counts(sf: ScaleFactor, tenths: u16, counts: u32) -> u64
 }
 
 // How much of c there is, in either direction.
-#[tactic(auto, using(counts::proofs::Distance::apart_is))]
+#[tactic(auto, using(rules::proofs::Laws::apart_is))]
 fn magnitude(c: u32) -> u32
     ensures { result ≡ nat_abs (c_value c) }
 {

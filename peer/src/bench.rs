@@ -277,12 +277,14 @@ fn fault_sample(step: u32) -> [u16; SAMPLE_WORDS] {
 
 fn numbers(answer: &StepAnswer) -> [u32; 4] {
     let [md1, md2] = answer.detectors.map(u32::from);
-    let readings = 8 * answer.tenths + 4 * u32::from(answer.tach_overflow) + 2 * md1 + md2;
-    let refused = u32::from(answer.refusal.is_some());
+    let flags = 8 * u32::from(answer.refusal.is_some())
+        + 4 * u32::from(answer.tach_overflow)
+        + 2 * md1
+        + md2;
     [
         u32::from(answer.machine_position.0) | u32::from(answer.tach) << 16,
         u32::from(answer.real_outputs) | u32::from(answer.virtual_outputs) << 16,
-        readings | answer.changed << 24 | refused << 29,
+        16 * answer.tenths + flags + 33_554_432 * answer.changed,
         u32::from(answer.tests),
     ]
 }

@@ -238,12 +238,12 @@ fn checksum_from(sum: u64, steps: &[Vec<String>]) -> u64 {
     steps.iter().fold(sum, |sum, fields| {
         let decimal = |field: usize| -> u64 { fields[field].parse().expect("decimal") };
         let hex = |field: usize| u64::from_str_radix(&fields[field], 16).expect("hexadecimal");
-        let flags = 4 * decimal(5) + 2 * decimal(6) + decimal(7);
-        let refused = if decimal(1) == 11 { 536_870_912 } else { 0 };
+        let refused = u64::from(decimal(1) == 11);
+        let flags = 8 * refused + 4 * decimal(5) + 2 * decimal(6) + decimal(7);
         [
             decimal(2) + 65536 * decimal(4),
             hex(8) + 65536 * hex(9),
-            8 * decimal(3) + flags + 16_777_216 * decimal(10) + refused,
+            16 * decimal(3) + flags + 33_554_432 * decimal(10),
             decimal(12),
         ]
         .iter()
@@ -439,11 +439,8 @@ fn each_turn_of_case_p_is_accepted_and_ended() {
 /// Machine Position 10, and tenths, tach and detectors are 0.
 #[test]
 fn cases_f_and_p_by_hand() {
-    // 11 stands alone: three numbers of 0, and 2^29 in the third place of four.
-    assert_eq!(
-        bench("f", 1),
-        format!("f 1 {}\n", 31 * 536_870_912u64 % 4_294_967_296)
-    );
+    // 11 stands alone: three numbers of 0, and 8 in the third place of four.
+    assert_eq!(bench("f", 1), format!("f 1 {}\n", 31 * 8));
     let step = &lines_of_cycles(0)[5];
     assert_eq!(step[..5], ["step", "0", "10", "0", "0"]);
 }

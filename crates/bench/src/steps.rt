@@ -29,10 +29,10 @@ pub fn plus(sum: u32, number: u64) -> u32 {
     ((31 * sum as u64 + number % 4294967296) % 4294967296) as u32
 }
 
-// The third number of a step: rpm, the three flags, the changed-output count and whether it was answered 11.
+// The third number of a step: the tenths, whether it was answered 11, the three flags, and the changed-output count.
 fn readings(a: Answer) -> u64 {
     let flags = 4 * u64::from(a.overflow) + 2 * u64::from(a.md1) + u64::from(a.md2);
-    8 * a.rpm as u64 + flags + 2097152 * a.changed as u64 + 67108864 * u64::from(a.refused)
+    16 * a.tenths as u64 + 8 * u64::from(a.refused) + flags + 33554432 * a.changed as u64
 }
 
 // The sum with a step's answer.

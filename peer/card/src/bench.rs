@@ -30,14 +30,15 @@ impl Card for Module {
 }
 
 fn numbers(answer: &Answer) -> [u32; 4] {
-    let readings = 8 * answer.tenths
+    let readings = 16 * answer.tenths
+        + 8 * u32::from(answer.refused)
         + 4 * u32::from(answer.overflow)
         + 2 * u32::from(answer.md1)
         + u32::from(answer.md2);
     [
         u32::from(answer.position) + 65536 * u32::from(answer.tach),
         u32::from(answer.real) + 65536 * u32::from(answer.virtuals),
-        readings + 16777216 * u32::from(answer.changed) + 536870912 * u32::from(answer.refused),
+        readings + 33554432 * u32::from(answer.changed),
         u32::from(answer.tests),
     ]
 }

@@ -428,10 +428,10 @@ class Steps(unittest.TestCase):
         long_steps = re.search(r"cond fast (\d+) (\d+)", clause(text, "window_steps")).groups()
         times = re.search(r"cond fast (\d+) (\d+)", clause(text, "window_time")).groups()
         self.assertEqual(numbers(rows["c, for the advances"][0]), [constant(text, "short_steps"), constant(text, "short_steps") // 5])
-        for name, steps, time in zip(["rpm with TResp 1", "rpm with TResp 0"], long_steps, times):
+        for name, steps, time in zip(["tenths with TResp 1", "tenths with TResp 0"], long_steps, times):
             self.assertEqual(numbers(rows[name][0]), [int(steps), int(time)])
-            self.assertIn("× 60000 / (1024 × %s)" % time, rows[name][1])
-        self.assertIn("nat_abs c * 60000) (1024 * window_time fast)", clause(text, "rpm_of"))
+            self.assertIn("× 600000 / (1024 × %s)" % time, rows[name][1])
+        self.assertIn("nat_abs c * 600000) (1024 * window_time fast)", clause(text, "tenths_of"))
         most = int(re.search(r"cond \(ltb (\d+) \(tach_value", clause(text, "tach_shown"))[1])
         self.assertIn("Above %d it reads %d and TachOv is set" % (most, most), SENTENCES)
         self.assertEqual({row[0]: row[1] for row in table("field of the header")}["`tach`"], "tachometer, 0 to %d" % most)
@@ -441,7 +441,17 @@ class Steps(unittest.TestCase):
         self.assertIn("(5 × T steps)", SENTENCES)
 
     def test_tachometer_example(self):
-        self.assertEqual(table("code"), [["tachometer"] + [str((2 * 200 + 3 * 10**code) // (2 * 3 * 10**code)) for code in range(4)]])
+        divisors = [3 * 10 ** (code + 1) for code in range(4)]
+        self.assertEqual(table("code"), [["tachometer"] + [str((2 * 1000 * 2 + divisor) // (2 * divisor)) for divisor in divisors]])
+        self.assertIn("(tenths * k.multiplier) (divisor k * 10 ^ (code_number (code_of k.code) + 1))", clause(rules("Motion"), "tach_value"))
+        self.assertIn("tenths × multiplier / (divisor × 10^(code + 1)), rounded half up once", SENTENCES)
+
+    def test_detectors(self):
+        detects = clause(rules("Motion"), "detects")
+        self.assertIn("not (eqb d.low 0 && eqb d.high 0)", detects)
+        self.assertIn("cond (leb d.low d.high) (leb (10 * d.low) tenths && leb tenths (10 * d.high)) (leb tenths (10 * d.high) || leb (10 * d.low) tenths)", detects)
+        shown = [["0/0", "never"], ["low ≤ high", "10 × low ≤ tenths ≤ 10 × high"], ["low > high", "tenths ≤ 10 × high or tenths ≥ 10 × low"]]
+        self.assertEqual(table("motion detector"), shown)
 
 
 class RackBus(unittest.TestCase):

@@ -196,7 +196,7 @@ fn r10b_outputs_follow_the_detectors() {
     assert_eq!(lit, [1, 1, 0, 2]);
 }
 
-/// Tach of tenths at divisor 1.
+/// The tachometer's reading at so many tenths.
 fn scaled(tenths: u32, multiplier: u16, divisor: u16, code: u16) -> u16 {
     let scalars = Scalars {
         multiplier,

@@ -89,7 +89,7 @@ impl SlowUpdates {
             let speed = Speed::of(step);
             self.stops += u64::from(speed.counts == 0);
             self.swung += u64::from(speed.counts == 0 && moved);
-            self.creeps += u64::from(speed.counts > 0 && speed.rpm() == 0);
+            self.creeps += u64::from(CREEP.contains(&step.answer.tenths));
             self.halves += u64::from(speed.is_a_half());
             self.see_detectors(step);
             self.see_tach(step, &speed);

@@ -2,6 +2,7 @@
 -- Assumes nothing.
 use Prim.Native.Nat.{ℕ, zero, suc, ◌+◌, ◌-◌, ◌*◌, ◌/◌, ◌%◌, ◌≤◌, ◌<◌}
 use mathlib.Core.Path.{◌≡◌, refl, sym, ap, ◌∙◌}
+use mathlib.Core.Bool.{Bool, true, false}
 use mathlib.Core.List.{List, [], ◌∷◌}
 use mathlib.Core.Logic.{inl, inr}
 use native.Mathlib.Nat.{mod-eq_of_lt, add-mod_right, add-mul-mod_self_right, div-add-mod'}
@@ -11,8 +12,8 @@ use lib.ListN.{length, get_or, set, length-set}
 use lib.Seq.{get_or-set_same, get_or-set_other}
 use lib.IntN.{ℤ, pos, negsuc, neg_ℤ, nat_abs, sub_ℕ, ◌+ℤ◌, ◌-ℤ◌, +ℤ_assoc, +ℤ_comm, neg_ℤ-+ℤ}
 use Rattle.std.proofs.lemmas.Nat.{mod_below}
-use Rattle.std.proofs.lemmas.Bool.{cases_lt}
-use Rattle.rules.specs.Words.{modulo, stored_at}
+use Rattle.std.proofs.lemmas.Bool.{cases_lt, or_right}
+use Rattle.rules.specs.Words.{modulo, stored_at, some_of}
 use Rattle.rules.specs.Counts.{ahead}
 
 -- a − b of two naturals
@@ -115,3 +116,20 @@ stored_word at (w ∷ ws) file zero h f =
 stored_word at (w ∷ ws) file (suc k) h f =
     let e : at + suc k ≡ at + 1 + k = omega arith in
     rw e (stored_word (at + 1) ws (set file at w) k (omega arith) (omega (arith, length-set file at w)))
+
+-- `some_of` where no number has f, and where one has it
+pub some_none : (n i : ℕ) (f : ℕ → Bool) → ((k : ℕ) → i ≤ k → k < i + n → f k ≡ false) → some_of n i f ≡ false
+unfolding some_of
+some_none zero i f h = refl
+some_none (suc n) i f h =
+    rw (h i (omega arith) (omega arith)) (some_none n (i + 1) f (λ k a b. h k (omega arith) (omega arith)))
+
+pub some_one : (n i k : ℕ) (f : ℕ → Bool) → k < n → f (i + k) ≡ true → some_of n i f ≡ true
+unfolding some_of
+some_one zero i k f b h = absurd (omega arith)
+some_one (suc n) i zero f b h =
+    let e : i + 0 ≡ i = omega arith in
+    rw (rw e at h)
+some_one (suc n) i (suc k) f b h =
+    let e : i + suc k ≡ i + 1 + k = omega arith in
+    or_right (f i) _ (some_one n (i + 1) k f (omega arith) (rw e at h))

@@ -128,7 +128,7 @@ count_same zero i f g h = refl
 count_same (suc n) i f g h = rw (h i, count_same n (i + 1) f g h)
 
 -- a test that every number of a range passes, or fails
-count_each : (n i : ℕ) (f : ℕ → Bool) (b : Bool) → ((k : ℕ) → i ≤ k → k < i + n → f k ≡ b) → count_of n i f ≡ cond b n 0
+pub count_each : (n i : ℕ) (f : ℕ → Bool) (b : Bool) → ((k : ℕ) → i ≤ k → k < i + n → f k ≡ b) → count_of n i f ≡ cond b n 0
 unfolding count_of
 count_each zero i f true h = refl
 count_each zero i f false h = refl

@@ -4,6 +4,7 @@ pub mod Congruence
 pub mod Lengths
 pub mod Packing
 pub mod Tests
+pub mod Trains
 pub mod Past
 pub mod Stretch
 pub mod Tenths

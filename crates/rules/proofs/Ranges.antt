@@ -42,6 +42,7 @@ use Rattle.rules.specs.Calls.{Call, default_setup}
 use Rattle.rules.specs.History.{programming_of}
 use Rattle.rules.proofs.Laws.{modulo_below}
 use Rattle.rules.proofs.Packing.{length_table}
+use Rattle.rules.proofs.Trains.{good_pair, good_pulse}
 use Rattle.rules.proofs.Programs.{always, with_setup_lem}
 
 -- ---- Tests that fail
@@ -144,13 +145,6 @@ pub record Within (p : Programming) : Type 0 where
   pub groups : (n : ℕ) → GroupWithin (scale_factor p.setup) (group_at p n)
   pub owners : (n : ℕ) → owner_of p n ≤ 6
   pub limits : (n : ℕ) → LimitWithin (scale_factor p.setup) (limit_of p n)
-
-good_pair : (sf on off : ℕ) → pair_bad sf on off ≡ false → (on < sf) × (off < sf)
-unfolding pair_bad
-good_pair sf on off e =
-    let a = or_parts (leb sf on || leb sf off) (eqb on off && not (eqb on 0)) e in
-    let b = or_parts (leb sf on) (leb sf off) a.0 in
-    (leb-false sf on b.0, leb-false sf off b.1)
 
 no_group_lem : (sf : ℕ) → 0 < sf → GroupWithin sf no_group
 no_group_lem sf s = record { on = s; off = s; offset = s; mode = lit≤ tt; unused = λ _. refl }
@@ -385,16 +379,7 @@ block_good sf fifth b e =
       length = rw i.0 at (no_bits (length_bit sf fifth b) (touch_bit sf fifth b ∷ []) i.1).0;
     }
 
--- a pulse that its length takes; a duration
-good_pulse : (r q k : ℕ) → pulse_bad false r q k ≡ false → (1 ≤ q) × (1 ≤ k) × (q * k + q - 1 ≤ r)
-unfolding pulse_bad
-good_pulse r q k e =
-    let a = or_parts (eqb q 0 || eqb k 0) (ltb r (q * k + q - 1)) e in
-    let b = or_parts (eqb q 0) (eqb k 0) a.0 in
-    let c = eqb-false q 0 b.0 in
-    let d = eqb-false k 0 b.1 in
-    (omega (arith, c), omega (arith, d), ltb-false r (q * k + q - 1) a.1)
-
+-- a duration
 good_time : (t : ℕ) → (eqb t 0 || ltb 9999 t) ≡ false → (1 ≤ t) × (t ≤ 9999)
 good_time t e =
     let a = or_parts (eqb t 0) (ltb 9999 t) e in

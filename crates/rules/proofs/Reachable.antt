@@ -42,6 +42,8 @@ use Rattle.rules.proofs.Packing.{packed_lt, packed_below}
 use Rattle.rules.proofs.GroupPast.{shift_below}
 use Rattle.rules.proofs.Timed.{passed_of}
 use Rattle.rules.proofs.Windows.{steps_below, sum_fits, biased_below, long_some, long_small}
+use Rattle.rules.proofs.Laws.{ahead_below}
+use Rattle.rules.proofs.Trains.{Separate, separate}
 use Rattle.rules.proofs.Tenths.{tenths_within}
 use Rattle.rules.proofs.Sums.{Between, sums_within, sums_held, magnitude_in, product_within, last_raw_below}
 use Rattle.rules.proofs.Ranges.{SwitchWithin, Within, ranges}
@@ -202,6 +204,13 @@ module _ (model : Model) (l : List Call) (n : ℕ) where
   -- "Q pulses of K counts, both at least 1", and R ≥ Q × K + Q − 1
   pub used_pulse : (q k : ℕ) → limit_switch (limit_of p n) ≡ Pulse q k → first_used p n ≡ true → (1 ≤ q) × (1 ≤ k) × (q * k + q - 1 ≤ train_length p n)
   used_pulse q k e u = first (Pulse q k) e u
+
+  -- its pulses are at least one count apart, and exactly Q fall in its length, however often it was nudged
+  pub running_train : (q k : ℕ) → limit_switch (limit_of p n) ≡ Pulse q k → first_used p n ≡ true → Separate (scale_factor p.setup) (train_length p n) q k
+  running_train q k e u =
+      let t : ℕ = p.setup.top in
+      let f = used_pulse q k e u in
+      separate (t + 1) (train_length p n) q k (ahead_below t (on_setpoint (limit_of p n) 0) (off_setpoint (limit_of p n) 0)) f.0 f.1 (omega (arith, f.2))
 
   -- so R − K and Q − 1 of "floor(j × (R − K) / (Q − 1))" are the plain differences
   pub plain_pulse : (q k : ℕ) → limit_switch (limit_of p n) ≡ Pulse q k → first_used p n ≡ true → (k ≤ train_length p n) × (1 ≤ q)

@@ -1,29 +1,16 @@
 -- A train of pulses: the starts do not fall from one pulse to the next, so the last pulse that has started decides.
 -- Assumes nothing.
 use Prim.Native.Nat.{ℕ, zero, suc, ◌+◌, ◌-◌, ◌*◌, ◌/◌, ◌≤◌, ◌<◌, min}
-use mathlib.Core.Bool.{Bool, true, false, cond, ◌&&◌}
-use mathlib.Core.Path.{◌≡◌, refl, sym}
+use mathlib.Core.Bool.{Bool, true, false, ◌&&◌}
+use mathlib.Core.Path.{◌≡◌, refl}
 use native.Mathlib.Nat.{zero-add, div-zero, mul-zero, zero-div, mul-le-mul_right, le-div_iff_mul-le, div-lt_iff_lt-mul, div-mul-le_self, min-le_left, min-le_right}
 use native.Mathlib.Omega.{arith}
-use borrow.Author.Tests.{eqb-true, leb-true, ltb-false, le-ltb, le-leb}
-use lib.Dec.{ltb, leb, eqb}
+use borrow.Author.Tests.{leb-true, ltb-false, le-ltb, le-leb}
+use lib.Dec.{ltb, leb}
 use Rattle.rules.specs.Switches.{pulse_start, pulse_on}
 use Rattle.switch.specs.Parts.{last_pulse}
-use Rattle.word.proofs.Laws.{some_one, some_none}
-
--- a quotient does not fall with its dividend
-div_monotone : (d : ℕ) {m n : ℕ} → m ≤ n → m / d ≤ n / d
-div_monotone zero {m} {n} h = rw (div-zero m, div-zero n) (omega arith)
-div_monotone (suc d) {m} {n} h = (le-div_iff_mul-le {k = suc d} {x = m / suc d} {y = n} (omega arith)).1 (omega (arith, div-mul-le_self m (suc d)))
-
-start_by : (r q k j : ℕ) (b : Bool) → eqb q 1 ≡ b → cond b 0 (j * (r - k) / (q - 1)) ≡ j * (r - k) / (q - 1)
-start_by r q k j true e = let z : q - 1 ≡ 0 = omega (arith, eqb-true q 1 e) in rw z (sym (div-zero (j * (r - k))))
-start_by r q k j false e = refl
-
--- one pulse starts at 0 by the same formula, as a number divided by 0 is 0
-pub start_value : (r q k j : ℕ) → pulse_start r q k j ≡ j * (r - k) / (q - 1)
-unfolding pulse_start
-start_value r q k j = start_by r q k j (eqb q 1) refl
+use Rattle.rules.proofs.Laws.{some_one, some_none}
+use Rattle.rules.proofs.Trains.{div_monotone, start_value}
 
 -- in m = R − K and d = Q − 1: the last started pulse has started, and no started one starts after it
 abbrev last : ℕ → ℕ → ℕ → ℕ

@@ -10,13 +10,14 @@ use lib.Dec.{eqb}
 use lib.Pow.{pow_mono}
 use borrow.Author.Tests.{eq-eqb, ne_eqb}
 use Rattle.std.proofs.Common.{inl, inr}
-use Rattle.std.proofs.lemmas.Bool.{cases_eq, or_right}
+use Rattle.std.proofs.lemmas.Bool.{cases_eq}
 use Rattle.std.proofs.lemmas.Bool.Decides.{nat_tests}
 use Rattle.std.proofs.lemmas.Nat.Bits.{bit_at_and, bit_at_or, bit_at_xor, bit_at_above, bit_at-lt, same_from_bits_below}
 use Rattle.std.specs.Int.{bit_at}
 use lib.Bits.{bit_and, bit_or, bit_xor, and_le_l}
 use lib.Count.{ones, ones_step}
 use mir.Val.{bool_byte}
+use Rattle.rules.proofs.Laws.{some_none, some_one}
 use Rattle.rules.proofs.Packing.{digit_le, packed_lt, packed_bit, packed_same}
 use Rattle.rules.specs.Words.{word, bit, digit, packed, some_of, count_of, lowest_of, any_word, forced}
 
@@ -125,22 +126,6 @@ pub some_packed : (n i : ℕ) (f : ℕ → Bool) → some_of n i f ≡ not (eqb 
 unfolding some_of packed
 some_packed zero i f = refl
 some_packed (suc n) i f = rw (some_packed n (i + 1) f) (some_digit (packed n (i + 1) f) (f i))
-
-pub some_none : (n i : ℕ) (f : ℕ → Bool) → ((k : ℕ) → i ≤ k → k < i + n → f k ≡ false) → some_of n i f ≡ false
-unfolding some_of
-some_none zero i f h = refl
-some_none (suc n) i f h =
-    rw (h i (omega arith) (omega arith)) (some_none n (i + 1) f (λ k a b. h k (omega arith) (omega arith)))
-
-pub some_one : (n i k : ℕ) (f : ℕ → Bool) → k < n → f (i + k) ≡ true → some_of n i f ≡ true
-unfolding some_of
-some_one zero i k f b h = absurd (omega arith)
-some_one (suc n) i zero f b h =
-    let e : i + 0 ≡ i = omega arith in
-    rw (rw e at h)
-some_one (suc n) i (suc k) f b h =
-    let e : i + suc k ≡ i + 1 + k = omega arith in
-    or_right (f i) _ (some_one n (i + 1) k f (omega arith) (rw e at h))
 
 pub any_none : (from to : ℕ) (file : List ℕ) → ((k : ℕ) → from ≤ k → k ≤ to → word file k ≡ 0) → any_word from to file ≡ false
 unfolding any_word

@@ -7,7 +7,8 @@ use mathlib.Core.Path.{◌≡◌, refl, sym, ap₂, ◌∙◌}
 use native.Mathlib.Nat.{zero-add}
 use native.Mathlib.Omega.{arith}
 use Rattle.std.proofs.lemmas.Bool.{cases_eq}
-use Rattle.word.proofs.Laws.{byte_digit, some_none, some_one}
+use Rattle.word.proofs.Laws.{byte_digit}
+use Rattle.rules.proofs.Laws.{some_none, some_one}
 use Rattle.rules.proofs.Packing.{digit_le}
 use lib.Count.{ones}
 use Rattle.rules.specs.Words.{digit, count_of}

@@ -1,7 +1,7 @@
 // One limit block of M1: its checks, the bits of word 630, and the program that it gives.
 #![tactic(auto)]
 
-ghost use Rattle.std.specs.Prelude.{false, true, ◌&&◌, ◌||◌, [], ◌∷◌, ◌≡◌, ◌+◌, ◌-◌, ◌*◌, ◌<◌, leb, ltb, eqb, nat_abs, MatchOption};
+ghost use Rattle.std.specs.Prelude.{false, true, ◌&&◌, ◌||◌, [], ◌∷◌, ◌≡◌, ◌+◌, ◌*◌, ltb, eqb, MatchOption};
 ghost use Rattle.rules.specs.Words.{word, bits, signed_word, some_of, table};
 ghost use Rattle.rules.specs.Variants.{action_with};
 ghost use Rattle.rules.specs.Switches as switches;
@@ -90,23 +90,6 @@ pub fn pulse_bad(bit3: bool, t: Train) -> bool
         || count == 0
         || !bit3
             && u32::from(length) < u32::from(quantity) * u32::from(count) + u32::from(quantity) - 1
-}
-
-// A pulse starts no later than where the one before it ends.
-fn some_touch(t: Train) -> bool
-    ensures { result ≡ some_of (t.quantity - 1) 0 (λ j. leb (switches.pulse_start t.length t.quantity t.count (j + 1)) (switches.pulse_start t.length t.quantity t.count j + t.count)) }
-{
-    (0..t.quantity.saturating_sub(1)).any(|j| u64::from(t.start(j + 1))
-        <= u64::from(t.start(j)) + u64::from(t.count))
-}
-
-// Two pulses touch, the first one after the last, round the turn, too.
-#[tactic(auto, unfolding(rules::specs::LimitWords::pulses_touch))]
-pub fn pulses_touch(sf: ScaleFactor, t: Train) -> bool
-    ensures { result ≡ limit.pulses_touch (factor sf) t.length t.quantity t.count }
-{
-    let last = t.start(t.quantity.saturating_sub(1));
-    some_touch(t) || u64::from(sf.top) < u64::from(last) + u64::from(t.count)
 }
 
 // Bit 4 of a timed switch: the fifth of its kind, or its duration.
@@ -217,19 +200,8 @@ impl Block {
         }
     }
 
-    // Bit 5, two pulses touch, tested where bits 3 and 4 are clear.
-    #[tactic(auto, unfolding(rules::specs::LimitWords::touch_bad))]
-    fn touch_bad(self, sf: ScaleFactor, bit3: bool, bit4: bool) -> bool
-        ensures { result ≡ limit.touch_bad (factor sf) bit3 bit4 self.words }
-    {
-        match self.kind() {
-            Kind::Pulse => !(bit3 || bit4) && self.is_used() && pulses_touch(sf, self.train(sf)),
-            Kind::Normal | Kind::Timed | Kind::Undefined => false,
-        }
-    }
-
-    // Bits 1 to 5 of word 630; of type 3 only 1 and 2 are tested. `fifth` says that the output is at least the fifth timed of its kind.
-    #[tactic(auto, unfolding(rules::specs::LimitWords::block_bits, rules::specs::LimitWords::length_bit, rules::specs::LimitWords::touch_bit))]
+    // Bits 1 to 4 of word 630; of type 3 only 1 and 2 are tested. `fifth` says that the output is at least the fifth timed of its kind.
+    #[tactic(auto, unfolding(rules::specs::LimitWords::block_bits, rules::specs::LimitWords::length_bit))]
     pub fn bits(self, sf: ScaleFactor, fifth: bool) -> u16
         ensures { result ≡ limit.block_bits (factor sf) fifth self.words }
     {
@@ -240,8 +212,7 @@ impl Block {
         }
         let bit3 = self.setpoint_bad(sf);
         let bit4 = self.length_bad(sf, fifth, bit3);
-        let bit5 = self.touch_bad(sf, bit3, bit4);
-        word::bits(false, bit1, bit2, bit3, bit4, bit5)
+        word::bits(false, bit1, bit2, bit3, bit4, false)
     }
 }
 

@@ -44,7 +44,7 @@ struct LimitBlocks<'a> {
 impl Blocks for LimitBlocks<'_> {
     ghost bits = { λ b n. limit.limit_bits b.model b.programming.now b.file.now n };
 
-    // Bits 0 to 5 of output n, from 1.
+    // Bits 0 to 4 of output n, from 1.
     #[tactic(auto, unfolding(rules::specs::LimitWords::limit_bits))]
     fn errors_of(&self, n: u16) -> u16 {
         match Block::read(self.model, self.file, n) {

@@ -50,8 +50,7 @@ fn fails(sf: ScaleFactor, s: Switch, pair: Pair) -> bool
 {
     match s {
         Switch::Pulse(quantity, count) => {
-            let train = Train::of(sf, pair, quantity, count);
-            limit_block::pulse_bad(false, train) || limit_block::pulses_touch(sf, train)
+            limit_block::pulse_bad(false, Train::of(sf, pair, quantity, count))
         }
         Switch::Unprogrammed | Switch::Normal | Switch::Timed(_) => false,
     }

@@ -1,7 +1,7 @@
 -- The table of cases: one test, computed over the whole table, and the law that turns it into what each line says.
 -- Assumes nothing.
 use Prim.Native.Nat.{ℕ, ◌<◌}
-use mathlib.Core.Bool.{Bool, true, false, beq, not, ◌||◌}
+use mathlib.Core.Bool.{Bool, true, false, beq, not}
 use mathlib.Core.List.{[], ◌∷◌}
 use mathlib.Core.Path.{◌≡◌, refl}
 use lib.ListN.{length, get_or}
@@ -17,7 +17,7 @@ use Rattle.rules.specs.declared.Position.TheVariants.{OfMachine}
 use Rattle.rules.specs.Motion.{tenths_of, tach_shown}
 use Rattle.rules.specs.Counts.{ahead, holds}
 use Rattle.rules.specs.Switches.{moved, pulse_holds}
-use Rattle.rules.specs.LimitWords.{pulse_bad, pulses_touch}
+use Rattle.rules.specs.LimitWords.{pulse_bad}
 use Rattle.rules.specs.Card.{fresh_group}
 use Rattle.rules.specs.Cases.{Case, tach, speed, advance, pulses, fits, pair, group, tests, numbers, integers, Says}
 use Rattle.rules.specs.Cases.{cases, lettered, of_words, of_motion, of_groups, of_lengths, of_switches, of_tests, of_cycles, of_setup, of_group_words, of_limit_words, of_nudge, of_reader, of_bus, of_trace}
@@ -32,7 +32,7 @@ right (speed fast c says) = eqb (tenths_of fast c) says
 right (advance a c setpoint says) = eqb (moved 1024 a c setpoint) says
 right (pulses on off q k says) =
     pointwise eqb (positions_with 1024 0 (λ p. pulse_holds 1024 (pos 0) (switch_at 2 q k 0 (on ∷ off ∷ [])) q k (OfMachine (record { 0 = p })))) says
-right (fits on off q k says) = beq (not (pulse_bad false (ahead 1024 on off) q k || pulses_touch 1024 (ahead 1024 on off) q k)) says
+right (fits on off q k says) = beq (not (pulse_bad false (ahead 1024 on off) q k)) says
 right (pair on off at says) = beq (holds 1024 on off at) says
 right (group on off steps says) = pointwise beq (openings (mode4_group on off) fresh_group steps) says
 right (tests given says) = pointwise beq given says

@@ -64,7 +64,7 @@ unfolding GroupWords.group_control_bits GroupWords.group_of GroupWords.dealt_up_
 group_words = tt
 
 limit_words1 : Unit {0}
-unfolding LimitWords.limit_block LimitWords.all_zero LimitWords.action_of LimitWords.limit_of_block LimitWords.limit_control_bits LimitWords.control_bad LimitWords.advance_bad LimitWords.block_pair_bad LimitWords.setpoint_bad LimitWords.pulse_bad LimitWords.pulses_touch LimitWords.length_bad LimitWords.touch_bad LimitWords.length_bit LimitWords.touch_bit
+unfolding LimitWords.limit_block LimitWords.all_zero LimitWords.action_of LimitWords.limit_of_block LimitWords.limit_control_bits LimitWords.control_bad LimitWords.advance_bad LimitWords.block_pair_bad LimitWords.setpoint_bad LimitWords.pulse_bad LimitWords.length_bad LimitWords.length_bit
 limit_words1 = tt
 
 limit_words2 : Unit {0}

@@ -1,8 +1,8 @@
 -- Demand 1, the file after a call: whatever the outcome, only the status words change; which words an acting cycle puts first. Assumes nothing.
-use Prim.Native.Nat.{ℕ, ◌<◌, ◌≤◌}
-use mathlib.Core.Bool.{Bool, true, cond}
-use mathlib.Core.List.{List}
-use mathlib.Core.Logic.{inl, inr}
+use Prim.Native.Nat.{ℕ, ◌/◌, ◌%◌, ◌^◌, ◌<◌, ◌≤◌}
+use mathlib.Core.Bool.{Bool, true, false, cond, ◌||◌}
+use mathlib.Core.List.{List, [], ◌∷◌}
+use mathlib.Core.Logic.{◌⊎◌, inl, inr}
 use mathlib.Core.Path.{◌≡◌, refl, sym, ◌∙◌}
 use native.Mathlib.Omega.{arith}
 use borrow.Author.Tests.{eqb-true, eq-eqb, ne_eqb}
@@ -12,12 +12,18 @@ use Rattle.std.proofs.lemmas.Bool.{cases_lt, cases_Bool, cases_eq}
 use Rattle.rules.specs.declared.FileCycle.{FileCycle}
 use Rattle.rules.specs.declared.FileCycle.TheVariants.{SetupCycle, GroupCycle, LimitCycle}
 use Rattle.rules.specs.declared.Cycle.TheVariants.{OfFile}
+use Rattle.rules.specs.declared.Model.{Model}
+use Rattle.rules.specs.declared.Programming.{Programming}
 use Rattle.rules.specs.declared.Module.{Module}
-use Rattle.rules.specs.Words.{stored_at}
+use Rattle.rules.specs.Words.{word, bit, bits, stored_at}
+use Rattle.rules.specs.Variants.{model_in}
+use Rattle.rules.specs.Motion.{scale_factor}
 use Rattle.rules.specs.Cycle.{acts}
-use Rattle.rules.specs.FileCycle.{file_length, status_at, file_errors, failing, command, file_cycle, status_words, file_after}
+use Rattle.rules.specs.LimitWords.{block_type, limit_block, control_bad, advance_bad, setpoint_bad, length_bit, block_bits, unread, fifth_timed, unassigned, limit_bits, limit_reserved, failing_limit, limit_errors}
+use Rattle.rules.specs.FileCycle.{file_length, command_at, status_at, file_errors, failing, command, file_cycle, status_words, file_after}
 use Rattle.rules.specs.Card.{file_left}
 use Rattle.rules.proofs.Laws.{length_stored, stored_outside, stored_word}
+use Rattle.rules.proofs.Packing.{digit_le}
 
 -- 01's lengths, and the word with transmit and ClrErr, of each kind
 abbrev pub length_of : FileCycle → ℕ
@@ -98,3 +104,56 @@ acted_status GroupCycle m file i l a e =
 acted_status LimitCycle m file i l a e =
     let n : length file ≡ 650 = eqb-true (length file) 650 l in
     rw (l, a, e) (stored_word 630 _ file 0 (omega arith) (omega arith), stored_word 630 _ file 1 (omega arith) (omega arith))
+
+-- ---- Word 630
+
+two_bits : (a b : Bool) → bits (a ∷ b ∷ []) ≤ 3
+two_bits a b = omega (arith, digit_le a, digit_le b)
+
+block_bits_below : (sf : ℕ) (fifth : Bool) (b : List ℕ) → block_bits sf fifth b < 32
+unfolding block_bits
+block_bits_below sf fifth b = go (eqb (block_type b) 3)
+  where
+    go : (undefined : Bool) → bits (false ∷ control_bad (word b 0) ∷ (advance_bad (word b 1) || advance_bad (word b 2)) ∷ cond undefined [] (setpoint_bad sf b ∷ length_bit sf fifth b ∷ [])) < 32
+    go true = omega (arith, two_bits (control_bad (word b 0)) (advance_bad (word b 1) || advance_bad (word b 2)))
+    go false = omega (arith, two_bits (control_bad (word b 0)) (advance_bad (word b 1) || advance_bad (word b 2)), two_bits (setpoint_bad sf b) (length_bit sf fifth b))
+
+limit_bits_below : (model : Model) (p : Programming) (file : List ℕ) (n : ℕ) → limit_bits model p file n < 32
+unfolding limit_bits
+limit_bits_below model p file n =
+    elim (cases_Bool (unread model file n)) [
+      | inl t ↦ rw t (omega arith)
+      | inr t ↦ elim (cases_Bool (unassigned p n)) [ inl o ↦ rw (t, o) (omega arith) | inr o ↦ rw (t, o) (block_bits_below (scale_factor p.setup) (fifth_timed file n) (limit_block file n)) ]
+    ]
+
+-- word 630 has bits 0 to 4 of an output, or bit 14 or 15 alone
+abbrev pub Word630 : ℕ → Type 0
+Word630 w = (w < 32) ⊎ ((w ≡ 0x4000) ⊎ (w ≡ 0x8000))
+
+limit_word : (model : Model) (p : Programming) (file : List ℕ) → Word630 (limit_errors model p file)
+unfolding limit_errors
+limit_word model p file =
+    elim (cases_Bool (limit_reserved file)) [
+      | inl t ↦ rw t (inr (inr refl))
+      | inr t ↦ elim (cases_Bool (eqb (failing_limit model p file) 0)) [ inl z ↦ rw (t, z) (inl (omega arith)) | inr z ↦ rw (t, z) (inl (limit_bits_below model p file (failing_limit model p file))) ]
+    ]
+
+-- after every limit cycle that acts, whatever its outcome
+pub word_630 : (m : Module) (file : List ℕ) → eqb (length file) 650 ≡ true → acts (OfFile LimitCycle) (word file 0) m.configuration ≡ true
+    → Word630 (get_or (file_left LimitCycle m file) 630 0)
+unfolding file_length file_errors command_at
+word_630 m file l a =
+    let i : Bool = (file_cycle LimitCycle m.configuration file).configuration.ignored in
+    let s = acted_status LimitCycle m file i l a refl in
+    rw s.0 (go i)
+  where
+    go : (i : Bool) → Word630 (cond i 0x4000 (limit_errors (model_in m.configuration) m.configuration.programming file))
+    go true = inr (inl refl)
+    go false = limit_word (model_in m.configuration) m.configuration.programming file
+
+-- "Then bit 5 leaves the table and the code; it reads 0"
+pub bit_5_reads_0 : (w : ℕ) → Word630 w → bit w 5 ≡ false
+unfolding bit
+bit_5_reads_0 w (inl l) = ne_eqb (w / 2 ^ 5 % 2) 1 (λ e. omega arith)
+bit_5_reads_0 w (inr (inl e)) = rw e refl
+bit_5_reads_0 w (inr (inr e)) = rw e refl

@@ -5,6 +5,7 @@ pub mod Lengths
 pub mod Packing
 pub mod Tests
 pub mod Trains
+pub mod Touching
 pub mod Past
 pub mod Stretch
 pub mod Tenths

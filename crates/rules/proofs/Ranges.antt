@@ -35,7 +35,7 @@ use Rattle.rules.specs.Groups.{no_group, group_at}
 use Rattle.rules.specs.Switches.{on_setpoint, off_setpoint, no_limit, past_limits, limit_of, owner_of}
 use Rattle.rules.specs.SetupWords.{direction_bit, preset_bit, no_programs, setup_errors, sf_bad, sf_judged, detector_bad, scalars_bad, preset_offset, setup_of, with_setup, reserved_status}
 use Rattle.rules.specs.GroupWords.{type_bit, used_bit, group_word, group_control_bits, same_type, control_quantity, control_mode, group_of, dealt_up_to, dealt_to, lacks_first_cycle, owners_of, group_program_bad, group_bits, group_reserved, failing_group, group_errors, with_groups}
-use Rattle.rules.specs.LimitWords.{control_detector, control_type, block_type, limit_block, action_of, setpoint_of, limit_of_block, unread, unassigned, limit_from, control_bad, advance_bad, block_pair_bad, setpoint_bad, pulse_bad, block_length, length_bad, fifth_timed, length_bit, touch_bit, block_bits, limit_bits, limit_reserved, failing_limit, limit_errors, with_limits}
+use Rattle.rules.specs.LimitWords.{control_detector, control_type, block_type, limit_block, action_of, setpoint_of, limit_of_block, unread, unassigned, limit_from, control_bad, advance_bad, block_pair_bad, setpoint_bad, block_length, length_bad, fifth_timed, length_bit, block_bits, limit_bits, limit_reserved, failing_limit, limit_errors, with_limits}
 use Rattle.rules.specs.FileCycle.{file_errors, brought}
 use Rattle.rules.specs.Nudge.{on_bit, off_bit, down_bit, nudge_output, nudge_pair, pair_missing, nudge_output_bad, nudged_if, result_bad, leaves_range, nudge_fails, nudge_setpoint_bad, nudged_limit, nudged_programming}
 use Rattle.rules.specs.Calls.{Call, default_setup}
@@ -362,7 +362,7 @@ record BlockGood (sf : ℕ) (fifth : Bool) (b : List ℕ) : Type 0 where
 block_good : (sf : ℕ) (fifth : Bool) (b : List ℕ) → block_bits sf fifth b ≡ 0 → BlockGood sf fifth b
 unfolding block_bits control_bad length_bit
 block_good sf fifth b e =
-    let lengths : List Bool = length_bit sf fifth b ∷ touch_bit sf fifth b ∷ [] in
+    let lengths : List Bool = length_bit sf fifth b ∷ [] in
     let rest : List Bool = cond (eqb (block_type b) 3) [] (setpoint_bad sf b ∷ lengths) in
     let advances : Bool = advance_bad (word b 1) || advance_bad (word b 2) in
     let a = no_bits false (control_bad (word b 0) ∷ advances ∷ rest) e in
@@ -376,7 +376,7 @@ block_good sf fifth b e =
       onadvance = h.0;
       offadvance = h.1;
       setpoints = i.0;
-      length = rw i.0 at (no_bits (length_bit sf fifth b) (touch_bit sf fifth b ∷ []) i.1).0;
+      length = rw i.0 at (no_bits (length_bit sf fifth b) [] i.1).0;
     }
 
 -- a duration
@@ -510,7 +510,7 @@ module _ (sf : ℕ) (l : Limit) (w : ℕ) (k : LimitWithin sf l) (present : pair
           let first = not-false (eqb (nudge_pair w) 0) m in
           let z : nudge_pair w ≡ 0 = eqb-true (nudge_pair w) 0 first in
           first_nudged (SwitchWithin sf (Pulse q c)) (λ o. let d : ◌≡◌ {A = ℕ} 0 1 = cc in omega arith) first
-          (λ _. good_pulse (ahead sf (on_to l 0 w) (off_to l 0 w)) q c (or_parts _ _ (rw z at f)).0)
+          (λ _. good_pulse (ahead sf (on_to l 0 w) (off_to l 0 w)) q c (rw z at f))
       go (Timed t) e m f b =
           let first = not-false (eqb (nudge_pair w) 0) m in
           let z : nudge_pair w ≡ 0 = eqb-true (nudge_pair w) 0 first in

@@ -5,15 +5,15 @@ use mathlib.Core.Bool.{Bool, true, false, cond, not, ◌&&◌, ◌||◌, true≢
 use mathlib.Core.Logic.{◌⊎◌, inl, inr}
 use mathlib.Core.List.{List}
 use mathlib.Core.Path.{◌≡◌, refl, sym, ap, ◌∙◌}
-use native.Mathlib.Nat.{zero-add, zero-mul, mul-one, suc-mul, zero-div, div-zero, add-mul-div_right, mul-div_cancel_left, mod-eq_of_lt, add-mod_right, div-mul-le_self, le-div_iff_mul-le, mul-le-mul_right}
+use native.Mathlib.Nat.{zero-add, zero-mul, mul-one, suc-mul, zero-div, div-zero, div-eq_of_lt-le, add-mul-div_right, mul-div_cancel_left, mod-eq_of_lt, add-mod_right, div-mul-le_self, le-div_iff_mul-le, mul-le-mul_right}
 use native.Mathlib.Omega.{arith}
 use lib.Dec.{ltb, leb, eqb}
 use borrow.Author.Tests.{eqb-true, eqb-false, ltb-false, leb-false, lt-ltb, lt-leb, le-ltb, le-leb}
 use Rattle.std.proofs.lemmas.Bool.{or_parts, cases_lt, cases_eq}
-use Rattle.rules.specs.Words.{word, some_of, count_of}
+use Rattle.rules.specs.Words.{word, count_of}
 use Rattle.rules.specs.Counts.{ahead, pair_bad}
 use Rattle.rules.specs.Switches.{pulse_start, pulse_on}
-use Rattle.rules.specs.LimitWords.{block_type, block_used, block_length, block_pair_bad, setpoint_bad, pulse_bad, pulses_touch, length_bad, length_bit}
+use Rattle.rules.specs.LimitWords.{block_type, block_used, block_length, block_pair_bad, setpoint_bad, pulse_bad, length_bad, length_bit}
 use Rattle.rules.proofs.Laws.{ahead_below, some_one, some_none}
 use Rattle.rules.proofs.Lengths.{count_split, count_each}
 
@@ -274,10 +274,12 @@ unfolding setpoint_bad block_pair_bad length_bit length_bad
 block_separate sf fifth b pulse used bit3 bit4 =
     train_separate sf (word b 3) (word b 4) (word b 5) (word b 6) (rw pulse at bit3) (rw (pulse, used) at (rw bit3 at bit4))
 
-pub no_touch : (sf r q k : ℕ) → Separate sf r q k → pulses_touch sf r q k ≡ false
-unfolding pulses_touch
-no_touch sf r q k h =
-    rw (
-      some_none (q - 1) 0 _ (λ j a b. lt-leb (pulse_start r q k (j + 1)) (pulse_start r q k j + k) (omega (arith, h.apart j (omega arith)))),
-      lt-leb sf (pulse_start r q k (q - 1) + k) (omega (arith, h.ends, h.turn, first_start r q k)),
-    )
+-- and no smaller R would do: with R one short the second pulse starts where the first ends
+pub one_short : (q k : ℕ) → 2 ≤ q → 1 ≤ k → pulse_start (q * k + q - 2) q k 1 ≡ pulse_start (q * k + q - 2) q k 0 + k
+one_short zero k h l = absurd (omega arith)
+one_short (suc d) k h l =
+    let x : 1 * (suc d * k + suc d - 2 - k) ≡ suc d * k + suc d - 2 - k = omega arith in
+    let less : suc d * k + suc d - 2 - k + 1 ≡ k * d + d = omega arith in
+    let v : (suc d * k + suc d - 2 - k) / d ≡ k = div-eq_of_lt-le d (omega (arith, less)) (omega (arith, less)) in
+    let y : suc d - 1 ≡ d = omega arith in
+    start_value (suc d * k + suc d - 2) (suc d) k 1 ∙ rw (first_start (suc d * k + suc d - 2) (suc d) k, x, y, v) (omega arith)

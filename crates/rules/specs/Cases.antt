@@ -1,7 +1,7 @@
 -- 01, "Cases shown": its lettered lines a) to i) as one table, and after them what 01 says of definitions that a card's calls and its history share, so that a
 -- theorem that equates the two does not see them. proofs/Cases.antt has the theorem that the definitions give what each line says.
 -- Assumes nothing.
-use Rattle.std.specs.Prelude.{ℕ, zero, suc, ◌+◌, ◌^◌, ◌%◌, Bool, true, false, cond, not, ◌&&◌, ◌||◌, List, [], ◌∷◌, ◌++◌, map, ◌≡◌, replicate, set, ltb, eqb, ℤ, pos, negsuc}
+use Rattle.std.specs.Prelude.{ℕ, zero, suc, ◌+◌, ◌^◌, ◌%◌, Bool, true, false, cond, not, ◌&&◌, List, [], ◌∷◌, ◌++◌, map, ◌≡◌, replicate, set, ltb, eqb, ℤ, pos, negsuc}
 use Rattle.rules.specs.declared.Position.TheVariants.{OfMachine, OfGroup}
 use Rattle.rules.specs.declared.Model.{Model}
 use Rattle.rules.specs.declared.Model.TheVariants.{NoModule, M8511, M8512, M8513}
@@ -29,11 +29,11 @@ use Rattle.rules.specs.Variants.{group_mode, real_count, virtual_count, limit_sw
 use Rattle.rules.specs.Counts.{ahead, holds}
 use Rattle.rules.specs.Motion.{real_input, turned, scaled_position, machine_position, window_steps, tach_shown, tach_overflow, tenths_of, is_stop, detects, conditions, fault_conditions, biased_c}
 use Rattle.rules.specs.Groups.{group_position, group_event, is_open}
-use Rattle.rules.specs.Switches.{moved, pair_length, pair_holds, normal_holds, pulse_holds, present, admitted, enable_holds, detector_holds, switch_tests, tests_at, pair_tests, output_words, changed_count, answer_of}
+use Rattle.rules.specs.Switches.{moved, pair_length, pair_holds, normal_holds, pulse_start, pulse_holds, present, admitted, enable_holds, detector_holds, switch_tests, tests_at, pair_tests, output_words, changed_count, answer_of}
 use Rattle.rules.specs.Cycle.{number_of, outcome_number, outcome_of, with_programming, error_of}
 use Rattle.rules.specs.SetupWords.{setup_errors, setup_of, no_programs}
 use Rattle.rules.specs.GroupWords.{group_of, owners_of, failing_group, group_errors}
-use Rattle.rules.specs.LimitWords.{all_zero, limit_of_block, pulse_bad, pulses_touch, touch_bad, block_bits, limit_from, fifth_timed, limit_bits, failing_limit, limit_errors, with_limits}
+use Rattle.rules.specs.LimitWords.{all_zero, limit_of_block, pulse_bad, block_bits, limit_from, fifth_timed, limit_bits, failing_limit, limit_errors, with_limits}
 use Rattle.rules.specs.Nudge.{nudge_output, nudge_pair, nudge_output_bad, nudge_setpoint_bad, nudged_limit}
 use Rattle.rules.specs.Reader.{reader_refusal, reader_part}
 use Rattle.rules.specs.Bus.{shown_by, nothing_shown, status_bits, requested, line_of, byte_at, byte_read, byte_shown, bus_write, bus_left}
@@ -548,11 +548,10 @@ of_limit_words =
     -- bit 4: "Q or K 0, or, with bit 3 clear, R < Q × K + Q − 1"; at 0/0 unread
     ∷ numbers (map word630 ((1 ∷ 0 ∷ 0 ∷ 100 ∷ 120 ∷ 0 ∷ 4 ∷ []) ∷ (1 ∷ 0 ∷ 0 ∷ 100 ∷ 120 ∷ 3 ∷ 0 ∷ []) ∷ (1 ∷ 0 ∷ 0 ∷ 100 ∷ 119 ∷ 4 ∷ 4 ∷ []) ∷ (1 ∷ 0 ∷ 0 ∷ 100 ∷ 118 ∷ 4 ∷ 4 ∷ []) ∷ [])) (16 ∷ 16 ∷ 0 ∷ 16 ∷ [])
     ∷ numbers (map word630 ((1 ∷ 0 ∷ 0 ∷ 0 ∷ 0 ∷ 0 ∷ 4 ∷ []) ∷ (1 ∷ 0 ∷ 0 ∷ 100 ∷ 100 ∷ 0 ∷ 4 ∷ []) ∷ (1 ∷ 0 ∷ 0 ∷ 100 ∷ 100 ∷ 4 ∷ 400 ∷ []) ∷ [])) (0 ∷ 24 ∷ 8 ∷ [])
-    -- "two pulses touch": one starts where the one before ends, or the last ends where the first starts
-    ∷ tests (pulses_touch 1000 20 1 4 ∷ pulses_touch 1000 8 2 4 ∷ pulses_touch 1000 9 2 4 ∷ pulses_touch 1000 20 4 5 ∷ pulses_touch 1000 19 4 4 ∷ pulses_touch 20 20 3 4 ∷ pulses_touch 21 20 3 4 ∷ []) (false ∷ true ∷ false ∷ true ∷ false ∷ true ∷ false ∷ [])
-    -- bit 5 "(tested where bits 3 and 4 are clear)"
-    ∷ tests (map (λ (b : Bool × Bool). touch_bad 1000 b.0 b.1 (block_of (1 ∷ 0 ∷ 0 ∷ 100 ∷ 120 ∷ 4 ∷ 5 ∷ []))) ((false, false) ∷ (true, false) ∷ (false, true) ∷ [])) (true ∷ false ∷ false ∷ [])
-    ∷ tests (map (λ (b : List ℕ). touch_bad 1000 false false (block_of b)) ((1 ∷ 0 ∷ 0 ∷ 100 ∷ 120 ∷ 2 ∷ 9 ∷ []) ∷ (1 ∷ 0 ∷ 0 ∷ 0 ∷ 0 ∷ 4 ∷ 5 ∷ []) ∷ (0 ∷ 0 ∷ 0 ∷ 100 ∷ 120 ∷ 4 ∷ 5 ∷ []) ∷ [])) (false ∷ false ∷ false ∷ [])
+    -- 02: R one short, exact and one more for Q 3 and K 4, where the second pulse starts 4, 5 and 5 counts on; Q 1 and K 1; a product over 65,535
+    ∷ numbers (map (λ (off : ℕ). word630 (1 ∷ 0 ∷ 0 ∷ 100 ∷ off ∷ 3 ∷ 4 ∷ [])) (113 ∷ 114 ∷ 115 ∷ []) ++ map (λ (r : ℕ). pulse_start r 3 4 1) (13 ∷ 14 ∷ 15 ∷ [])) (16 ∷ 0 ∷ 0 ∷ 4 ∷ 5 ∷ 5 ∷ [])
+    ∷ numbers (map (λ (k : ℕ). word630 (1 ∷ 0 ∷ 0 ∷ 999 ∷ 998 ∷ 1 ∷ k ∷ [])) (1 ∷ 999 ∷ 1000 ∷ 65535 ∷ []) ++ map (λ (q : ℕ). word630 (1 ∷ 0 ∷ 0 ∷ 999 ∷ 998 ∷ q ∷ 1 ∷ [])) (1 ∷ 500 ∷ 501 ∷ 65535 ∷ [])) (0 ∷ 0 ∷ 16 ∷ 16 ∷ 0 ∷ 0 ∷ 16 ∷ 16 ∷ [])
+    ∷ numbers (map (λ (q : ℕ). word630 (1 ∷ 0 ∷ 0 ∷ 0 ∷ 999 ∷ q ∷ q ∷ [])) (31 ∷ 256 ∷ 32768 ∷ 65535 ∷ [])) (0 ∷ 16 ∷ 16 ∷ 16 ∷ [])
     -- "of type 3 only bits 1 and 2 are tested"; bits 1, 2 and 3 together
     ∷ numbers (word630 (3 ∷ 1000 ∷ 0 ∷ 5 ∷ 5 ∷ []) ∷ word630 (4 ∷ 1000 ∷ 0 ∷ 5 ∷ 5 ∷ []) ∷ []) (6 ∷ 14 ∷ [])
     -- "An all-zero block": all 19 words
@@ -566,7 +565,7 @@ of_limit_words =
     -- bit 0, "not all zero and, in Group Mode, unassigned (no other bit is then tested)"; "Missing outputs' blocks are unread."
     ∷ numbers (map (λ (p : Programming). limit_bits M8513 p (m1_with 40 (4 ∷ [])) 3) (with_mode 0x8000 ∷ with_mode 0x8200 ∷ []) ++ (limit_bits M8513 (with_mode 0x8000) (m1_with 40 []) 3 ∷ limit_bits M8511 (with_mode 0x8200) (m1_with 40 (4 ∷ [])) 3 ∷ [])) (1 ∷ 2 ∷ 0 ∷ 0 ∷ [])
     ∷ numbers (map (λ (m : Model). (limit_from m (m1_with 40 (0 ∷ 0 ∷ 0 ∷ 1 ∷ 2 ∷ [])) 3).action.kind) (M8511 ∷ M8512 ∷ [])) (0 ∷ 1 ∷ [])
-    -- "Word 631 is the lowest failing output, and bits 0 to 5 are its own.": outputs 3 and 4
+    -- "Word 631 is the lowest failing output", 02: "bits 0 to 4 are the lowest failing output's own.": outputs 3 and 4
     ∷ numbers (failing_limit M8513 (with_mode 0x8200) (m1_with 40 (4 ∷ replicate 18 0 ++ (0 ∷ 1000 ∷ []))) ∷ limit_errors M8513 (with_mode 0x8200) (m1_with 40 (4 ∷ replicate 18 0 ++ (0 ∷ 1000 ∷ []))) ∷ []) (3 ∷ 2 ∷ [])
     ∷ numbers (failing_limit M8511 (with_mode 0x8200) (m1_with 40 (4 ∷ [])) ∷ failing_limit M8513 (with_mode 0x8200) (m1_with 591 (4 ∷ [])) ∷ []) (0 ∷ 32 ∷ [])
     -- "15, then alone, a reserved bit of word 0 or a nonzero word 1 or 610 to 629"
@@ -686,8 +685,7 @@ Says (speed fast c says) = tenths_of fast c ≡ says
 Says (advance a c setpoint says) = moved 1024 a c setpoint ≡ says
 Says (pulses on off q k says) =
     positions_with 1024 0 (λ p. pulse_holds 1024 (pos 0) (switch_at 2 q k 0 (on ∷ off ∷ [])) q k (OfMachine (record { 0 = p }))) ≡ says
-Says (fits on off q k says) =
-    not (pulse_bad false (ahead 1024 on off) q k || pulses_touch 1024 (ahead 1024 on off) q k) ≡ says
+Says (fits on off q k says) = not (pulse_bad false (ahead 1024 on off) q k) ≡ says
 Says (pair on off at says) = holds 1024 on off at ≡ says
 Says (group on off steps says) = openings (mode4_group on off) fresh_group steps ≡ says
 Says (tests given says) = given ≡ says

@@ -9,7 +9,7 @@ use Rattle.rules.specs.declared.Programming.{Programming}
 use Rattle.rules.specs.Words.{word, bit, bits, some_of, each_of, count_of, lowest_of, table, other_bit, any_word, signed_word}
 use Rattle.rules.specs.Motion.{scale_factor}
 use Rattle.rules.specs.Counts.{ahead, used_pair, pair_bad}
-use Rattle.rules.specs.Switches.{pulse_start, present, unprogrammed, no_limit, owner_of}
+use Rattle.rules.specs.Switches.{present, unprogrammed, no_limit, owner_of}
 use Rattle.rules.specs.Cycle.{transmit_bit, clear_bit}
 use Rattle.rules.specs.SetupWords.{reserved_status}
 
@@ -86,11 +86,6 @@ setpoint_bad sf b = cond (eqb (block_type b) 0) (some_of 8 0 (block_pair_bad sf 
 unfoldable pub pulse_bad : Bool → ℕ → ℕ → ℕ → Bool
 pulse_bad bit3 r q k = eqb q 0 || eqb k 0 || (not bit3 && ltb r (q * k + q - 1))
 
--- "two pulses touch": the next starts no later than where one ends, the first one after the last, round the turn, too
-unfoldable pub pulses_touch : ℕ → ℕ → ℕ → ℕ → Bool
-pulses_touch sf r q k =
-    some_of (q - 1) 0 (λ j. leb (pulse_start r q k (j + 1)) (pulse_start r q k j + k)) || leb sf (pulse_start r q k (q - 1) + k)
-
 -- R of a block: (off − on) mod SF
 abbrev pub block_length : ℕ → List ℕ → ℕ
 block_length sf b = ahead sf (word b 3) (word b 4)
@@ -108,25 +103,18 @@ length_bad sf fifth bit3 b =
     (fifth || (block_used b && (eqb (word b 5) 0 || ltb 9999 (word b 5))))
     false)
 
--- bit 5, "two pulses touch (tested where bits 3 and 4 are clear)"
-unfoldable pub touch_bad : ℕ → Bool → Bool → List ℕ → Bool
-touch_bad sf bit3 bit4 b =
-    eqb (block_type b) 1 && not (bit3 || bit4) && block_used b && pulses_touch sf (block_length sf b) (word b 5) (word b 6)
-
--- bits 1 to 5: "of type 3 only bits 1 and 2 are tested"
+-- bit 4, where bit 3 is the block's own
 unfoldable pub length_bit : ℕ → Bool → List ℕ → Bool
 length_bit sf fifth b = length_bad sf fifth (setpoint_bad sf b) b
 
-unfoldable pub touch_bit : ℕ → Bool → List ℕ → Bool
-touch_bit sf fifth b = touch_bad sf (setpoint_bad sf b) (length_bit sf fifth b) b
-
+-- bits 1 to 4: "of type 3 only bits 1 and 2 are tested"; 02: "Then bit 5 leaves the table and the code; it reads 0"
 unfoldable pub block_bits : ℕ → Bool → List ℕ → ℕ
 block_bits sf fifth b =
     bits
     (false
     ∷ control_bad (word b 0)
     ∷ (advance_bad (word b 1) || advance_bad (word b 2))
-    ∷ cond (eqb (block_type b) 3) [] (setpoint_bad sf b ∷ length_bit sf fifth b ∷ touch_bit sf fifth b ∷ []))
+    ∷ cond (eqb (block_type b) 3) [] (setpoint_bad sf b ∷ length_bit sf fifth b ∷ []))
 
 -- ---- The blocks of a file
 
@@ -161,7 +149,7 @@ limit_command_bits = clear_bit ∷ transmit_bit ∷ []
 unfoldable pub limit_reserved : List ℕ → Bool
 limit_reserved file = other_bit limit_command_bits (word file 0) || any_word 1 1 file || any_word 610 629 file
 
--- "Word 631 is the lowest failing output, and bits 0 to 5 are its own."
+-- "Word 631 is the lowest failing output"; 02: "bits 0 to 4 are the lowest failing output's own."
 unfoldable pub failing_limit : Model → Programming → List ℕ → ℕ
 failing_limit model p file = cond (limit_reserved file) 0 (lowest_of 32 1 (λ n. not (eqb (limit_bits model p file n) 0)))
 

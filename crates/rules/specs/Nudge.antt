@@ -15,7 +15,7 @@ use Rattle.rules.specs.Motion.{scale_factor}
 use Rattle.rules.specs.Counts.{ahead, used_pair, pair_bad}
 use Rattle.rules.specs.Switches.{on_setpoint, off_setpoint, limit_of}
 use Rattle.rules.specs.Cycle.{stands, cycle, ignored_cycle, refused_cycle, accepted_cycle}
-use Rattle.rules.specs.LimitWords.{pulse_bad, pulses_touch, with_limits}
+use Rattle.rules.specs.LimitWords.{pulse_bad, with_limits}
 
 -- "8 ON, 9 OFF, or both; 10 down, 7–5 pair − 1, 4–0 output − 1"; 14 is ClrErr
 abbrev pub on_bit : ℕ
@@ -61,11 +61,11 @@ leaves_range sf down x = cond down (eqb x 0) (leb sf (x + 1))
 abbrev pub nudged_if : Bool → Bool → ℕ → ℕ
 nudged_if chosen down x = cond chosen (nudged_to down x) x
 
--- the limit checks that a nudge can fail: the pair's and, of a pulse, its length and touching
+-- the limit checks that a nudge can fail: the pair's and, of a pulse, its length
 abbrev pub nudge_fails : ℕ → Switch → ℕ → ℕ → Bool
 nudge_fails sf Unprogrammed on off = false
 nudge_fails sf Normal on off = false
-nudge_fails sf (Pulse q k) on off = pulse_bad false (ahead sf on off) q k || pulses_touch sf (ahead sf on off) q k
+nudge_fails sf (Pulse q k) on off = pulse_bad false (ahead sf on off) q k
 nudge_fails sf (Timed t) on off = false
 
 -- "10, after 9: pair unused, or result 0/0, out of range or failing limit checks", for a pair (on, off) and the result

@@ -217,7 +217,7 @@ impl Train {
 
     // Where pulse j starts.
     #[tactic(auto, using(rules::proofs::Trains::start_value))]
-    pub fn start(self, j: u16) -> u32
+    fn start(self, j: u16) -> u32
         ensures { result ≡ pulse_start self.length self.quantity self.count j }
     {
         if self.quantity <= 1 {

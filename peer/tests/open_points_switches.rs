@@ -7,7 +7,7 @@ use common::{
     ENABLE, INDEPENDENT, MD1, MD2, NUDGE_OFF, PULSE, SLCINT, TIMED, TRESP,
 };
 use peer::motion::advance_shift;
-use peer::pulse::{pulse_holds, pulse_start, pulses_fit, pulses_touch};
+use peer::pulse::{pulse_start, pulses_fit, pulses_touch};
 use peer::switch::Switch;
 use peer::{Answer, Refusal};
 
@@ -208,30 +208,6 @@ fn pulse_of_quantity_1_and_uneven_starts() {
         held(&[PULSE, 0, 0, 0, 12, 4, 2], 0),
         [0, 1, 3, 4, 6, 7, 10, 11]
     );
-}
-
-#[test]
-fn pulse_holds_as_defined_for_all_small_trains() {
-    for length in 1..40u16 {
-        for quantity in 1..=length {
-            for on_count in 1..=length {
-                if length + 1 < quantity * on_count + quantity {
-                    continue;
-                }
-                for distance in 0..45 {
-                    let defined = (0..quantity).any(|j| {
-                        let start = if quantity == 1 {
-                            0
-                        } else {
-                            j * (length - on_count) / (quantity - 1)
-                        };
-                        start <= distance && distance < start + on_count
-                    });
-                    assert_eq!(pulse_holds(distance, length, quantity, on_count), defined);
-                }
-            }
-        }
-    }
 }
 
 #[test]

@@ -2,7 +2,7 @@
 
 use crate::blocks::{BlockFault, LIMIT_BLOCK_WORDS};
 use crate::pair::Pair;
-use crate::pulse::{pulses_fit, pulses_touch};
+use crate::pulse::pulses_fit;
 use crate::switch::{Switches, OUTPUTS};
 
 /// Pairs of a normal switch.
@@ -21,7 +21,6 @@ pub const CONTROL_ERROR: u16 = 1 << 1;
 pub const ADVANCE_ERROR: u16 = 1 << 2;
 pub const SETPOINT_ERROR: u16 = 1 << 3;
 pub const DURATION_ERROR: u16 = 1 << 4;
-pub const PULSES_TOUCH: u16 = 1 << 5;
 
 /// Type bits of the control word.
 #[derive(Clone, Copy, Debug, PartialEq, Eq)]
@@ -139,26 +138,18 @@ fn timed_errors(pair: Pair, duration_ms: u16, scale: u16, timed_before: usize) -
     errors
 }
 
-/// Bits 3 to 5 for a pulse train.
+/// Bits 3 and 4 for a pulse train.
 pub fn pulse_errors(pair: Pair, quantity: u16, on_count: u16, scale: u16) -> u16 {
     if pair.is_unused() {
         return 0;
     }
     let setpoints = setpoint_errors(pair, scale);
-    if quantity == 0 || on_count == 0 {
+    // The length of an unsound pair is not judged.
+    let fits = setpoints != 0 || pulses_fit(pair.length(scale), quantity, on_count);
+    if quantity == 0 || on_count == 0 || !fits {
         return setpoints | DURATION_ERROR;
     }
-    if setpoints != 0 {
-        return setpoints;
-    }
-    let length = pair.length(scale);
-    if !pulses_fit(length, quantity, on_count) {
-        return DURATION_ERROR;
-    }
-    if pulses_touch(length, quantity, on_count, scale) {
-        return PULSES_TOUCH;
-    }
-    0
+    setpoints
 }
 
 /// Checks the blocks of the outputs in `present`; `assigned` are those that

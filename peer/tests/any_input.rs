@@ -180,7 +180,7 @@ fn leaf_functions_take_any_numbers() {
         advance_shift, machine_position, moved_length, moved_setpoint, movement, tach, tenths,
     };
     use peer::pair::{pair_holds, Pair};
-    use peer::pulse::{pulse_holds, pulse_start, pulses_fit, pulses_touch};
+    use peer::pulse::{pulse_holds, pulse_start, pulses_fit};
     use peer::setup::Scalars;
 
     let edges = [0, 1, 2, 1023, 1024, 0x7fff, 0x8000, 0xffff];
@@ -204,7 +204,6 @@ fn leaf_functions_take_any_numbers() {
                 moved_setpoint(c, shift, b);
                 moved_length(a, shift, advance_shift(c as i16, i32::MIN, b));
             }
-            pulses_touch(a, b, a, b);
             moved_setpoint(a, i64::MIN, b);
         }
         tenths(i32::MIN, u32::from(a));

@@ -121,7 +121,6 @@ fn lists_of_cycles_reach_every_answer() {
     }
 }
 
-/// Bit 5 of word 630 cannot be set.
 fn assert_status_words(words: &Counts) {
     let setup_bits = [1, 2, 4, 8, 0x10, 0x20, 0x8000];
     words.assert_all_seen(bits_and_pairs("setup", &setup_bits));

@@ -7,7 +7,7 @@ use common::{
     ENABLE, INDEPENDENT, MD1, MD2, NUDGE_OFF, PULSE, SLCINT, TIMED, TRESP,
 };
 use peer::motion::advance_shift;
-use peer::pulse::{pulse_start, pulses_fit, pulses_touch};
+use peer::pulse::{pulse_start, pulses_fit};
 use peer::switch::Switch;
 use peer::{Answer, Refusal};
 
@@ -208,24 +208,6 @@ fn pulse_of_quantity_1_and_uneven_starts() {
         held(&[PULSE, 0, 0, 0, 12, 4, 2], 0),
         [0, 1, 3, 4, 6, 7, 10, 11]
     );
-}
-
-#[test]
-fn p37_fitting_pulses_never_touch() {
-    for length in 1..64 {
-        for quantity in 1..=length {
-            for on_count in 1..=length {
-                if pulses_fit(length, quantity, on_count) {
-                    assert!(!pulses_touch(length, quantity, on_count, 64));
-                }
-            }
-        }
-    }
-    // The test itself: starts 0 and 3 with K 3 touch, with K 2 they do not.
-    assert!(pulses_touch(6, 2, 3, 64));
-    assert!(!pulses_touch(5, 2, 2, 64));
-    // The last pulse ends where the first of the next turn starts.
-    assert!(pulses_touch(20, 2, 2, 20));
 }
 
 #[test]

@@ -10,8 +10,9 @@ use std::time::{Duration, Instant};
 
 use crate::generate::{
     byte_list, column_list, cycle_list, damaged_trace, extreme_list, frame_list, length_list,
-    pair_test_list, press_list, slow_list, step_list, whole_trace, CallList, Conversions, Extremes,
-    Lengths, PairTests, SlowUpdates, StopPresses, USUAL_SAMPLES, USUAL_STEPS,
+    pair_test_list, press_list, slow_list, step_list, train_list, whole_trace, CallList,
+    Conversions, Extremes, Lengths, PairTests, SlowUpdates, StopPresses, Trains, USUAL_SAMPLES,
+    USUAL_STEPS,
 };
 
 /// Inputs compared at the same time.
@@ -31,6 +32,7 @@ pub enum InputKind {
     Slow,
     Lengths,
     Tests,
+    Trains,
     Bytes,
     Frames,
     Columns,
@@ -48,6 +50,7 @@ impl InputKind {
             InputKind::Slow,
             InputKind::Lengths,
             InputKind::Tests,
+            InputKind::Trains,
             InputKind::Bytes,
             InputKind::Frames,
             InputKind::Columns,
@@ -67,6 +70,7 @@ impl InputKind {
             InputKind::Slow => "slow",
             InputKind::Lengths => "lengths",
             InputKind::Tests => "tests",
+            InputKind::Trains => "trains",
             InputKind::Bytes => "bytes",
             InputKind::Frames => "frames",
             InputKind::Columns => "columns",
@@ -97,6 +101,10 @@ impl InputKind {
             }),
             InputKind::Tests => Input::of_counted_list(&pair_test_list(seed), |list| Counted {
                 tests: PairTests::of_list(list),
+                ..Counted::default()
+            }),
+            InputKind::Trains => Input::of_counted_list(&train_list(seed), |list| Counted {
+                trains: Trains::of_list(list),
                 ..Counted::default()
             }),
             InputKind::Bytes => Input::of_list(&byte_list(seed)),
@@ -152,6 +160,7 @@ pub struct Counted {
     pub slow: SlowUpdates,
     pub lengths: Lengths,
     pub tests: PairTests,
+    pub trains: Trains,
     pub conversions: Conversions,
 }
 
@@ -164,6 +173,7 @@ impl Counted {
         self.slow.add(&other.slow);
         self.lengths.add(&other.lengths);
         self.tests.add(&other.tests);
+        self.trains.add(&other.trains);
         self.conversions.add(&other.conversions);
     }
 }
@@ -185,8 +195,8 @@ pub struct Totals {
 
 impl Totals {
     /// The last line of a comparison; it counts byte accesses, presses in the
-    /// steps of stops, ends of C, updates of slow machines, lengths, tests or
-    /// sections turned, where the lists are made for them.
+    /// steps of stops, ends of C, updates of slow machines, lengths, tests, trains
+    /// or sections turned, where the lists are made for them.
     pub fn line(&self, kind: InputKind) -> String {
         let counted = match kind {
             InputKind::Bytes => format!(", {} byte accesses", self.byte_accesses),
@@ -201,6 +211,7 @@ impl Totals {
             InputKind::Slow => format!(", {}", self.counted.slow),
             InputKind::Lengths => format!(", {}", self.counted.lengths),
             InputKind::Tests => format!(", {}", self.counted.tests),
+            InputKind::Trains => format!(", {}", self.counted.trains),
             InputKind::Columns => format!(", {}", self.counted.conversions),
             _ => String::new(),
         };

@@ -8,8 +8,8 @@ use std::time::{Duration, Instant};
 use common::{run_program, run_with_arguments};
 use peer::compare::{InputKind, Programs};
 use peer::generate::{
-    column_list, extreme_list, length_list, pair_test_list, press_list, slow_list, Conversions,
-    Extremes, Lengths, PairTests, SlowUpdates, StopPresses,
+    column_list, extreme_list, length_list, pair_test_list, press_list, slow_list, train_list,
+    Conversions, Extremes, Lengths, PairTests, SlowUpdates, StopPresses, Trains,
 };
 
 const REPLAY: &str = env!("CARGO_BIN_EXE_replay");
@@ -226,6 +226,31 @@ fn steps_at_256_are_those_of_the_lines() {
     let full = lines.filter(|line| line.starts_with("step ") && line.ends_with(" 256"));
     let counted = (1..=10).map(|seed| PairTests::of_list(&pair_test_list(seed)).at_most);
     assert_eq!(full.count() as u64, counted.sum::<u64>());
+}
+
+#[test]
+fn trains_are_counted() {
+    let mut trains = Trains::default();
+    for seed in 1..=10 {
+        trains.add(&Trains::of_list(&train_list(seed)));
+    }
+    let text = trains.to_string();
+    assert_counted("trains", &text);
+    let Trains {
+        one_short,
+        exact,
+        bit_4,
+        nudged_short,
+        rises,
+        whole,
+        ..
+    } = trains;
+    let start = format!("{one_short} trains one short, {exact} exact, ");
+    let end = format!(" nudged to no pair, {rises} rises, {whole} trains that rose Q times");
+    assert!(text.starts_with(&start) && text.ends_with(&end), "{text}");
+    assert!(text.contains(&format!(", {bit_4} words 630 with bit 4, ")));
+    let least = [one_short, bit_4, nudged_short, whole / 10];
+    assert!(least.iter().all(|&count| count > 20), "{text}");
 }
 
 #[test]

@@ -8,7 +8,7 @@ use std::collections::BTreeMap;
 use common::printed;
 use peer::generate::{
     byte_list, column_list, cycle_list, extreme_list, frame_list, length_list, pair_test_list,
-    press_list, slow_list, step_list, CallList, USUAL_STEPS,
+    press_list, slow_list, step_list, train_list, CallList, USUAL_STEPS,
 };
 
 const LISTS: usize = 2000;
@@ -206,6 +206,11 @@ fn lists_of_tests_have_cycles_in_mid_run() {
     assert_cycles_in_mid_run(answered((1..=80).map(pair_test_list)));
 }
 
+#[test]
+fn lists_of_trains_have_cycles_in_mid_run() {
+    assert_cycles_in_mid_run(answered((1..=80).map(train_list)));
+}
+
 fn assert_cycles_in_mid_run(calls: Counts) {
     for (name, least) in [
         ("step 0", 200_000),
@@ -248,6 +253,7 @@ fn a_seed_gives_one_list_and_another_seed_another() {
         slow_list,
         length_list,
         pair_test_list,
+        train_list,
     ] {
         assert_eq!(list(7), list(7));
         assert_ne!(list(7).bytes(), list(8).bytes());
@@ -277,5 +283,6 @@ fn every_call_is_answered() {
         assert_answered(&slow_list(seed));
         assert_answered(&length_list(seed));
         assert_answered(&pair_test_list(seed));
+        assert_answered(&train_list(seed));
     }
 }

@@ -79,6 +79,12 @@ fn lists_of_tests_have_steps() {
 }
 
 #[test]
+fn lists_of_trains_have_steps() {
+    // Eight walks round a turn, the shortest of 32 steps and two more.
+    assert!(steps(&answers(&["trains", "5"])) >= 8 * 34);
+}
+
+#[test]
 fn lists_of_frames_have_both_calls() {
     // A seed whose list is not broken off.
     let text = answers(&["frames", "2"]);
@@ -103,7 +109,7 @@ fn lists_of_columns_have_both_calls() {
 #[test]
 fn lists_repeat() {
     let kinds = [
-        "frames", "columns", "bytes", "presses", "extremes", "slow", "lengths", "tests",
+        "frames", "columns", "bytes", "presses", "extremes", "slow", "lengths", "tests", "trains",
     ];
     for kind in kinds {
         let list = written(LISTS, &[kind, "9"]);
@@ -139,6 +145,7 @@ fn wrong_arguments_show_the_usage() {
         &["slow", "1", "2"],
         &["lengths", "1", "2"],
         &["tests", "1", "2"],
+        &["trains", "1", "2"],
         &["bytes"],
         &["bytes", "1", "2"],
         &["steps", "1", "2", "3"],

@@ -47,7 +47,7 @@ fn seeds(count: &str, first: &str) -> Option<Range<u64>> {
 
 fn usage() -> ExitCode {
     eprintln!(
-        "usage: compare cycles|steps|presses|extremes|slow|lengths|tests|bytes|frames|columns|traces|damaged COUNT FIRST_SEED PROGRAM_A PROGRAM_B"
+        "usage: compare cycles|steps|presses|extremes|slow|lengths|tests|trains|bytes|frames|columns|traces|damaged COUNT FIRST_SEED PROGRAM_A PROGRAM_B"
     );
     ExitCode::from(USAGE_STATUS)
 }

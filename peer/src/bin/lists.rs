@@ -5,13 +5,13 @@ use std::process::ExitCode;
 
 use peer::generate::{
     byte_list, column_list, cycle_list, extreme_list, frame_list, length_list, pair_test_list,
-    press_list, slow_list, step_list, CallList, USUAL_STEPS,
+    press_list, slow_list, step_list, train_list, CallList, USUAL_STEPS,
 };
 use peer::words;
 
 fn main() -> ExitCode {
     words::write_from_arguments(
-        "lists cycles|presses|extremes|slow|lengths|tests|bytes|frames|columns SEED | lists steps SEED [STEPS]",
+        "lists cycles|presses|extremes|slow|lengths|tests|trains|bytes|frames|columns SEED | lists steps SEED [STEPS]",
         |arguments| list(arguments).map(|list| list.bytes()),
     )
 }
@@ -26,6 +26,7 @@ fn list(arguments: &[&str]) -> Option<CallList> {
         ["slow", seed] => slow_list(seed.parse().ok()?),
         ["lengths", seed] => length_list(seed.parse().ok()?),
         ["tests", seed] => pair_test_list(seed.parse().ok()?),
+        ["trains", seed] => train_list(seed.parse().ok()?),
         ["bytes", seed] => byte_list(seed.parse().ok()?),
         ["frames", seed] => frame_list(seed.parse().ok()?),
         ["columns", seed] => column_list(seed.parse().ok()?),

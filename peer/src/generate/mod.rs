@@ -39,6 +39,12 @@ mod spoil;
 mod step_lists;
 mod stops;
 mod traces;
+mod train_blocks;
+#[cfg(test)]
+mod train_coverage;
+mod train_events;
+mod train_lists;
+mod trains;
 
 pub use byte_lists::byte_list;
 pub use call_list::CallList;
@@ -54,3 +60,5 @@ pub use slow_updates::SlowUpdates;
 pub use step_lists::{step_list, USUAL_STEPS};
 pub use stops::StopPresses;
 pub use traces::{damaged_trace, whole_trace, USUAL_SAMPLES};
+pub use train_lists::train_list;
+pub use trains::Trains;

@@ -8,7 +8,9 @@ use crate::group::{
     Kind, FIRST_CYCLE_VIRTUAL, GROUPS, GROUP_USED, GROUP_VIRTUAL, MODE_BITS, MODE_SHIFT,
     QUANTITY_BITS,
 };
-use crate::limit_block::{DETECTOR_SHIFT, ENABLE_BIT, HIGHEST_ADVANCE, MOST_TIMED, PAIRS};
+use crate::limit_block::{
+    block_pair, DETECTOR_SHIFT, ENABLE_BIT, HIGHEST_ADVANCE, MOST_TIMED, PAIRS,
+};
 use crate::motion::STEPS_PER_MS;
 use crate::pair::Pair;
 use crate::setup::{
@@ -116,6 +118,14 @@ impl Program {
 
     pub fn programmed(&self) -> u32 {
         outputs_where(|output| self.limit_block(output) != [0; LIMIT_BLOCK_WORDS])
+    }
+
+    /// Outputs with pulse trains that are not at 0/0.
+    pub fn trains(&self) -> u32 {
+        outputs_where(|output| {
+            let block = self.limit_block(output);
+            block[0] & 3 == PULSE && !block_pair(&block, 0).is_unused()
+        })
     }
 
     /// Draws sound words of a kind.

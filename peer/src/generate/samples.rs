@@ -4,11 +4,13 @@ use crate::generate::numbers::Numbers;
 use crate::generate::program::Program;
 use crate::generate::slow_lists::Travel;
 use crate::group::FIRST_CYCLE;
-use crate::motion::ADVANCE_STEPS;
+use crate::motion::{ADVANCE_STEPS, TURN};
 use crate::step::SAMPLE_WORDS;
 
 /// Parts of a count in which position and speed are kept.
 const PARTS: i64 = 1 << 16;
+/// Counts of the encoder that a walk round a turn goes in a step, at most.
+const WIDEST_STRIDE: u16 = 32;
 
 /// How the raw position goes on; speeds in parts of a count for each step.
 #[derive(Clone, Copy, Debug)]
@@ -269,6 +271,20 @@ impl Samples {
             inputs.rarity = 0;
         }
         self.pressing = pressing;
+    }
+
+    /// The machine passes every count of a turn, and a few of them again; most
+    /// inputs are active and forces are seldom. Tells for how many samples.
+    pub fn draw_walk(&mut self, numbers: &mut Numbers, program: &Program) -> u32 {
+        let stride = numbers.between(1, (TURN / program.scale()).min(WIDEST_STRIDE));
+        let speed = PARTS * i64::from(stride);
+        self.motion = Motion::Steady(numbers.pick(&[speed, speed, -speed]));
+        for inputs in [&mut self.real, &mut self.virt] {
+            inputs.active = 0xffff;
+            inputs.rarity = numbers.pick(&[0, 0, 0, 10]);
+        }
+        self.forces.every = numbers.pick(&[0, 0, 0, 200]);
+        u32::from(TURN / stride + numbers.between(2, 40))
     }
 
     /// The machine stands; tells for how many samples, a stop being among

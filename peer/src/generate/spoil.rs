@@ -66,7 +66,7 @@ fn draw_edge(numbers: &mut Numbers, scale: u16) -> u16 {
     ])
 }
 
-fn draw_nonzero(numbers: &mut Numbers) -> u16 {
+pub fn draw_nonzero(numbers: &mut Numbers) -> u16 {
     let any = numbers.between(1, 65535);
     numbers.pick(&[1, 0x8000, 0xffff, any])
 }
@@ -78,7 +78,7 @@ fn draw_errors(numbers: &mut Numbers, errors: &[u16]) -> u16 {
 }
 
 /// Makes a pair unsound: a setpoint out of range, or both equal.
-fn spoil_pair(numbers: &mut Numbers, pair: &mut [u16], scale: u16) {
+pub fn spoil_pair(numbers: &mut Numbers, pair: &mut [u16], scale: u16) {
     let beyond = draw_beyond(numbers, scale);
     match numbers.below(4) {
         0 => pair[0] = beyond,

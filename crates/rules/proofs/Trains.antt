@@ -254,11 +254,11 @@ good_pair sf on off e =
 pub good_pulse : (r q k : ℕ) → pulse_bad false r q k ≡ false → (1 ≤ q) × (1 ≤ k) × (q * k + q - 1 ≤ r)
 unfolding pulse_bad
 good_pulse r q k e =
-    let a = or_parts (eqb q 0 || eqb k 0) (ltb r (q * k + q - 1)) e in
+    let a = or_parts (eqb q 0 || eqb k 0) _ e in
     let b = or_parts (eqb q 0) (eqb k 0) a.0 in
     let c = eqb-false q 0 b.0 in
     let d = eqb-false k 0 b.1 in
-    (omega (arith, c), omega (arith, d), ltb-false r (q * k + q - 1) a.1)
+    (omega (arith, c), omega (arith, d), omega (arith, ltb-false _ _ a.1))
 
 pub train_separate : (sf on off q k : ℕ) → pair_bad sf on off ≡ false → pulse_bad false (ahead sf on off) q k ≡ false → Separate sf (ahead sf on off) q k
 train_separate sf on off q k e f =

@@ -21,7 +21,7 @@ static files file;
 static uint32_t least[MOST_STEPS];
 static volatile unsigned char *other;
 
-/* Case a with 32 pulse outputs of the most pulses that fit, which take the longest to check; the last output's advance may be bad. */
+/* Case a with 32 pulse outputs of the most pulses that fit; the last output's advance may be bad. */
 static void case_p(files *f, uint16_t advance) {
     case_a(f);
     for (int n = 1; n <= 32; n++) {

@@ -76,7 +76,7 @@ unfolding pulses_touch
 no_touch sf r q k h =
     rw (
       some_none (q - 1) 0 _ (λ j a b. lt-leb (pulse_start r q k (j + 1)) (pulse_start r q k j + k) (omega (arith, h.apart j (omega arith)))),
-      lt-leb sf (pulse_start r q k (q - 1) + k) (omega (arith, h.ends, h.turn, first_start r q k)),
+      lt-leb sf (pulse_start r q k (q - 1) + k) (omega (arith, h.turn, first_start r q k)),
     )
 
 never_set : (sf : ℕ) (fifth : Bool) (b : List ℕ) → touch_bit sf fifth b ≡ false

@@ -66,9 +66,10 @@ rises sf r q k at = pulse_on r q k at && not (pulse_on r q k ((at + (sf - 1)) % 
 pub record Separate (sf r q k : ℕ) : Type 0 where
   -- "pulses at least one count apart"
   pub apart : (j : ℕ) → j + 1 < q → pulse_start r q k j + k + 1 ≤ pulse_start r q k (j + 1)
-  -- "Round the turn too: the last pulse ends at R ≤ SF − 1", and the first starts at the ON setpoint, SF counts on
+  -- the last one from the first of the next turn, which starts SF counts on, too: it ends within R, which is at most SF − 1
+  pub turn : pulse_start r q k (q - 1) + k + 1 ≤ sf + pulse_start r q k 0
   pub ends : pulse_start r q k (q - 1) + k ≤ r
-  pub turn : r + 1 ≤ sf + pulse_start r q k 0
+  pub below : r ≤ sf - 1
   -- "exactly Q pulses fall in its length", of K counts each
   pub pulses : count_of r 0 (rises sf r q k) ≡ q
   pub counts : count_of r 0 (pulse_on r q k) ≡ q * k
@@ -232,8 +233,9 @@ module _ (sf r q k : ℕ) (turn : r < sf) (some : 1 ≤ q) (lit : 1 ≤ k) (fits
   pub separate : Separate sf r q k
   separate = record {
     apart = apart;
+    turn = omega (arith, ends);
     ends = ends;
-    turn = omega (arith, first_start r q k);
+    below = omega arith;
     pulses = counted 1 (rises sf r q k) lit (λ j i l m. let e : start j + i ≡ start j = omega arith in rw e (rise_on j l)) rise_off ∙ mul-one q;
     counts = counted k (pulse_on r q k) (omega arith) on off;
     whole = whole;

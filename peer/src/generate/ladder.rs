@@ -182,8 +182,25 @@ impl Ladder {
         self.sound_cycle(FileKind::Limit);
     }
 
-    /// The same with quick updates of the speed, groups that are mostly in
-    /// Mode 5, and outputs that show whether they are open.
+    /// A setup with this SF and mode, and groups as they are drawn.
+    pub fn program_groups(
+        &mut self,
+        scale: u16,
+        independent: bool,
+        draw: impl FnOnce(&mut Numbers, &mut Program),
+    ) {
+        let mut program = self.program.clone();
+        program.draw_setup(&mut self.numbers, scale, independent);
+        self.sound_cycle_of(FileKind::Setup, program);
+        if !self.program.is_independent() {
+            let mut program = self.program.clone();
+            draw(&mut self.numbers, &mut program);
+            self.sound_cycle_of(FileKind::Group, program);
+        }
+    }
+
+    /// Setup, groups and limits with quick updates of the speed, groups that are
+    /// mostly in Mode 5, and outputs that show whether they are open.
     pub fn program_mode_5(&mut self) {
         self.clear_errors();
         let mut program = self.program.clone();

@@ -56,15 +56,8 @@ impl Run {
         let ladder = &mut self.ladder;
         ladder.clear_errors();
         let (scale, independent) = (draw_scale(&mut ladder.numbers), ladder.numbers.one_in(3));
-        let mut program = ladder.program.clone();
-        program.draw_setup(&mut ladder.numbers, scale, independent);
-        ladder.sound_cycle_of(FileKind::Setup, program);
+        ladder.program_groups(scale, independent, self.drawing.groups);
         self.samples.module_start();
-        if !ladder.program.is_independent() {
-            let mut program = ladder.program.clone();
-            (self.drawing.groups)(&mut ladder.numbers, &mut program);
-            ladder.sound_cycle_of(FileKind::Group, program);
-        }
     }
 
     /// Limit blocks drawn for a speed, which comes and stays for a while.

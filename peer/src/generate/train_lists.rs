@@ -50,19 +50,14 @@ impl Run {
         let ladder = &mut self.ladder;
         ladder.clear_errors();
         let (scale, independent) = (draw_scale(&mut ladder.numbers), ladder.numbers.one_in(2));
-        let mut program = ladder.program.clone();
-        program.draw_setup(&mut ladder.numbers, scale, independent);
-        ladder.sound_cycle_of(FileKind::Setup, program);
-        self.samples.module_start();
-        if !ladder.program.is_independent() {
-            let mut program = ladder.program.clone();
-            let mode = ladder.numbers.pick(&[0, 0, 1]);
-            program.draw_groups_in(&mut ladder.numbers, mode);
-            if ladder.numbers.one_in(2) {
+        ladder.program_groups(scale, independent, |numbers, program| {
+            let mode = numbers.pick(&[0, 0, 1]);
+            program.draw_groups_in(numbers, mode);
+            if numbers.one_in(2) {
                 program.deal_rest();
             }
-            ladder.sound_cycle_of(FileKind::Group, program);
-        }
+        });
+        self.samples.module_start();
     }
 
     /// Limit cycles with some trains that do not fit: the file is mended output

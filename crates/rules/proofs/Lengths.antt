@@ -2,7 +2,7 @@
 use Prim.Native.Nat.{ℕ, zero, suc, ◌+◌, ◌-◌, ◌≤◌, ◌<◌}
 use mathlib.Core.Bool.{Bool, true, false, cond, ◌&&◌}
 use mathlib.Core.Logic.{◌↔◌, ◌⊎◌, inl, inr, ⊎_elim}
-use mathlib.Core.Path.{◌≡◌, refl, sym, ap, ◌∙◌}
+use mathlib.Core.Path.{◌≡◌, refl, sym, ap, fun_ext, ◌∙◌}
 use native.Mathlib.Nat.{mod-eq_of_lt}
 use native.Mathlib.Omega.{arith}
 use borrow.Author.Tests.{leb-true, lt-ltb, le-ltb}
@@ -122,11 +122,6 @@ equal_advances t c l k p e = equal_shifts t c l k p (ap (λ (a : Advance). advan
 
 -- ---- At how many positions
 
-count_same : (n i : ℕ) (f g : ℕ → Bool) → ((k : ℕ) → f k ≡ g k) → count_of n i f ≡ count_of n i g
-unfolding count_of
-count_same zero i f g h = refl
-count_same (suc n) i f g h = rw (h i, count_same n (i + 1) f g h)
-
 -- a test that every number of a range passes, or fails
 pub count_each : (n i : ℕ) (f : ℕ → Bool) (b : Bool) → ((k : ℕ) → i ≤ k → k < i + n → f k ≡ b) → count_of n i f ≡ cond b n 0
 unfolding count_of
@@ -186,5 +181,7 @@ moved_below t a c x = omega (arith, modulo_below (pos x -ℤ advance_shift (t + 
 pub held_counts : (t : ℕ) (c : ℤ) (l : Limit) (k n : ℕ) (at : ℕ → Position) → ((p : ℕ) → count_at (at p) ≡ p) → pair_used l k ≡ true → pair_length (t + 1) c l k ≡ pos n → n ≤ t + 1
     → count_of (t + 1) 0 (λ p. pair_holds (t + 1) c l k (at p)) ≡ n
 held_counts t c l k n at place u e h =
-    count_same (t + 1) 0 _ (λ p. ltb (ahead (t + 1) (moved_on (t + 1) c l k) p) n) (λ p. pair_signed t c l k (at p) ∙ rw (u, place p, e))
+    let same : (λ (p : ℕ). pair_holds (t + 1) c l k (at p)) ≡ (λ (p : ℕ). ltb (ahead (t + 1) (moved_on (t + 1) c l k) p) n) =
+    fun_ext (λ p. pair_signed t c l k (at p) ∙ rw (u, place p, e)) in
+    ap (λ (f : ℕ → Bool). count_of (t + 1) 0 f) same
     ∙ so_many t n (moved_on (t + 1) c l k) (moved_below t (advance_value l.onadvance) c (on_setpoint l k)) h

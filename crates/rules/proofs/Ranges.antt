@@ -362,15 +362,14 @@ record BlockGood (sf : ℕ) (fifth : Bool) (b : List ℕ) : Type 0 where
 block_good : (sf : ℕ) (fifth : Bool) (b : List ℕ) → block_bits sf fifth b ≡ 0 → BlockGood sf fifth b
 unfolding block_bits control_bad length_bit
 block_good sf fifth b e =
-    let lengths : List Bool = length_bit sf fifth b ∷ [] in
-    let rest : List Bool = cond (eqb (block_type b) 3) [] (setpoint_bad sf b ∷ lengths) in
+    let rest : List Bool = cond (eqb (block_type b) 3) [] (setpoint_bad sf b ∷ length_bit sf fifth b ∷ []) in
     let advances : Bool = advance_bad (word b 1) || advance_bad (word b 2) in
     let a = no_bits false (control_bad (word b 0) ∷ advances ∷ rest) e in
     let d = no_bits (control_bad (word b 0)) (advances ∷ rest) a.1 in
     let c = no_bits advances rest d.1 in
     let f = or_parts (eqb (control_detector (word b 0)) 3) (eqb (control_type (word b 0)) 3) (or_parts _ _ d.0).0 in
     let h = or_parts (advance_bad (word b 1)) (advance_bad (word b 2)) c.0 in
-    let i = no_bits (setpoint_bad sf b) lengths (rw f.1 at c.1) in
+    let i = no_bits (setpoint_bad sf b) (length_bit sf fifth b ∷ []) (rw f.1 at c.1) in
     record {
       detector = eqb-false (control_detector (word b 0)) 3 f.0;
       onadvance = h.0;

@@ -37,7 +37,8 @@ use Rattle.rules.specs.Calls.{Call, Step, FileCall, NudgeCall, ByteCall, sound, 
 use Rattle.rules.specs.Card.{conditions_now, open_now, group_state_at, file_left, step_call}
 use Rattle.rules.specs.Run.{module_after, run, output_bit}
 use Rattle.rules.specs.Quant.{no_later}
-use Rattle.rules.specs.History.{configuration_of, programming_of, setup_in_force, is_module_start, conditions_in, PastStep, begins_at, takes_at, edge_at, first_edge_at, stop_at, position_at, dwell_at, past_of, qualifies_at, counts_at, open_at, group_step_in, since_group_start, group_past, position_in, open_in, positions_in, openness_in, last_raw, left_positions, acted, ignored_after, message_ignored}
+use Rattle.rules.specs.History.{configuration_of, programming_of, setup_in_force, is_module_start, conditions_in, PastStep, begins_at, takes_at, edge_at, first_edge_at, stop_at}
+use Rattle.rules.specs.History.{position_at, dwell_at, past_of, qualifies_at, counts_at, open_at, group_step_in, since_group_start, group_past, position_in, open_in, positions_in, openness_in, last_raw, left_positions, acted, ignored_after, message_ignored}
 use Rattle.rules.proofs.Laws.{stored_word}
 use Rattle.rules.proofs.Brought.{preset_shows}
 use Rattle.rules.proofs.Packing.{get_d_table_0, length_table}

@@ -1,10 +1,10 @@
 -- Word 630, word 631 and the nudge's check as they were with bit 5, "two pulses touch": of every file and every nudge they are what they are without it, so that no
 -- answer changed when 02's "Tidier limit errors" took it out. What 01 had stands here alone, for this one statement. Assumes nothing.
-use Prim.Native.Nat.{ℕ, zero, suc, ◌+◌, ◌-◌}
+use Prim.Native.Nat.{ℕ, ◌+◌, ◌-◌}
 use mathlib.Core.Bool.{Bool, true, false, cond, not, ◌&&◌, ◌||◌}
 use mathlib.Core.Logic.{inl, inr}
 use mathlib.Core.List.{List, [], ◌∷◌}
-use mathlib.Core.Path.{◌≡◌, refl, ap}
+use mathlib.Core.Path.{◌≡◌, refl, ap, fun_ext}
 use native.Mathlib.Omega.{arith}
 use lib.Dec.{leb, eqb}
 use borrow.Author.Tests.{eqb-true, lt-leb}
@@ -101,16 +101,11 @@ same_limit : (model : Model) (p : Programming) (file : List ℕ) (n : ℕ) → l
 unfolding limit_bits_with_5 limit_bits
 same_limit model p file n = rw (same_block (scale_factor p.setup) (fifth_timed file n) (limit_block file n))
 
-lowest_same : (n i : ℕ) (f g : ℕ → Bool) → ((k : ℕ) → f k ≡ g k) → lowest_of n i f ≡ lowest_of n i g
-unfolding lowest_of
-lowest_same zero i f g h = refl
-lowest_same (suc n) i f g h = rw (h i, lowest_same n (i + 1) f g h)
-
 -- words 631 and 630 of every file, under every programming,
 pub same_631 : (model : Model) (p : Programming) (file : List ℕ) → failing_limit_with_5 model p file ≡ failing_limit model p file
 unfolding failing_limit_with_5 failing_limit
 same_631 model p file =
-    ap (λ (x : ℕ). cond (limit_reserved file) 0 x) (lowest_same 32 1 _ _ (λ n. ap (λ (x : ℕ). not (eqb x 0)) (same_limit model p file n)))
+    ap (λ (f : ℕ → ℕ). cond (limit_reserved file) 0 (lowest_of 32 1 (λ n. not (eqb (f n) 0)))) (fun_ext (same_limit model p file))
 
 pub same_630 : (model : Model) (p : Programming) (file : List ℕ) → limit_errors_with_5 model p file ≡ limit_errors model p file
 unfolding limit_errors_with_5 limit_errors

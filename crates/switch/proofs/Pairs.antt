@@ -1,8 +1,8 @@
 -- A switch's pairs by the position taken back and the spread of the displacements: what the loop over pairs tests is the rule.
 -- Assumes nothing.
-use Prim.Native.Nat.{ℕ, zero, suc, ◌+◌, ◌-◌, ◌≤◌, ◌<◌}
+use Prim.Native.Nat.{ℕ, suc, ◌+◌, ◌-◌, ◌≤◌, ◌<◌}
 use mathlib.Core.Bool.{Bool, true, false, cond, ◌&&◌}
-use mathlib.Core.Path.{◌≡◌, refl, sym, ap, ◌∙◌}
+use mathlib.Core.Path.{◌≡◌, refl, sym, ap, fun_ext, ◌∙◌}
 use native.Mathlib.Omega.{arith}
 use borrow.Author.Tests.{ltb-true, ltb-false, lt-ltb, le-ltb}
 use lib.Dec.{ltb}
@@ -18,16 +18,6 @@ use Rattle.rules.proofs.Laws.{ahead_below}
 use Rattle.rules.proofs.Congruence.{ahead_of_moved}
 use Rattle.rules.proofs.Lengths.{pair_signed}
 use Rattle.switch.specs.Parts.{taken_back, spread_of, pair_at, pair_of, some_pair, used_of, pairs_tested}
-
-some_same : (n i : ℕ) (f g : ℕ → Bool) → ((k : ℕ) → f k ≡ g k) → some_of n i f ≡ some_of n i g
-unfolding some_of
-some_same zero i f g h = refl
-some_same (suc n) i f g h = rw (h i, some_same n (i + 1) f g h)
-
-up_to_same : (n i : ℕ) (f ends stops : ℕ → Bool) → ((k : ℕ) → ends k ≡ stops k) → count_up_to n i f ends ≡ count_up_to n i f stops
-unfolding count_up_to
-up_to_same zero i f ends stops h = refl
-up_to_same (suc n) i f ends stops h = rw (h i, up_to_same n (i + 1) f ends stops h)
 
 -- two tests that say the same
 pub agree : (a b c d : ℕ) → (a < b → c < d) → (b ≤ a → d ≤ c) → ltb a b ≡ ltb c d
@@ -79,10 +69,10 @@ pair_displaced t c l k p =
 pub some_displaced : (t : ℕ) (c : ℤ) (l : Limit) (p : Position) →
     normal_holds (t + 1) c l p ≡ some_pair (t + 1) (from_at (t + 1) c l p) (spread_at (t + 1) c l) l.setpoints
 unfolding normal_holds some_pair pair_of
-some_displaced t c l p = some_same 8 0 _ _ (λ k. pair_displaced t c l k p)
+some_displaced t c l p = ap (λ (f : ℕ → Bool). some_of 8 0 f) (fun_ext (λ k. pair_displaced t c l k p))
 
 -- the tests of a normal switch
 pub tests_displaced : (t : ℕ) (c : ℤ) (l : Limit) (p : Position) →
     switch_tests (t + 1) c l Normal p ≡ pairs_tested (t + 1) (from_at (t + 1) c l p) (spread_at (t + 1) c l) l.setpoints
 unfolding switch_tests pairs_tested pair_of
-tests_displaced t c l p = up_to_same 8 0 (used_of l.setpoints) _ _ (λ k. pair_displaced t c l k p)
+tests_displaced t c l p = ap (λ (ends : ℕ → Bool). count_up_to 8 0 (used_of l.setpoints) ends) (fun_ext (λ k. pair_displaced t c l k p))

@@ -1,10 +1,14 @@
 // Frames from memory: written and read, and the checksum over what the buffer then holds.
+ghost use Rattle.std.specs.Prelude.{◌≡◌, length};
+
 use crate::steps::plus;
 use df1::{LONGEST_FRAME, MOST_DATA, Refusal};
 use std::array;
 
 // The data of the first frame.
-fn first_data() -> [u8; MOST_DATA] {
+fn first_data() -> [u8; MOST_DATA]
+    ensures { 244 ≡ length result }
+{
     array::from_fn(|k| (7 * k % 256) as u8)
 }
 

@@ -1,9 +1,13 @@
 // The frame calls: frames written and read over a lent buffer, each byte of it EEh before the call.
+ghost use Rattle.std.specs.Prelude.{◌≡◌, length, min};
+
 use crate::answer::Bytes;
 use df1::{Direction, number_of};
 
 // The low bytes of a file's words, at the room's start. Data or a frame that the room has not whole is refused by the part that it has.
-fn low_bytes<'a>(words: &[u16], room: &'a mut [u8; 651]) -> &'a [u8] {
+fn low_bytes<'a>(words: &[u16], room: &'a mut [u8; 651]) -> &'a [u8]
+    ensures { length result.now ≡ min (length words.now) 651 }
+{
     for (byte, word) in room.iter_mut().zip(words) {
         [*byte, _] = word.to_le_bytes();
     }
@@ -27,7 +31,9 @@ fn show_call(to: &impl Print, direction: Direction, bytes: &[u8], out: &mut [u8]
 }
 
 // Room for the largest lent buffer. It is fixed, as there is no heap; the buffer of a call is a slice of it.
-fn buffer_space() -> [u8; 65535] {
+fn buffer_space() -> [u8; 65535]
+    ensures { 65535 ≡ length result }
+{
     [0xee; 65535]
 }
 

@@ -1,6 +1,7 @@
 // The card's own loop: the calls on a module that a host keeps where it sits, exported for C and Rust. include/chimneyrye.h is their header. The module
 // is lent as the engine has it. A step is the engine's own; each other call is one by value on what lies there, and stores what that call gives back. C has
-// no Result: a refusal is answered by its number.
+// no Result: a refusal is answered by its number. The exported calls' contracts cite the rules' definitions alone, so that no other need be believed; `Gives`
+// is for the private functions.
 
 #![tactic(auto)]
 
@@ -33,7 +34,7 @@ fn give(m: &mut Module, r: CycleResult) -> u16
 // Power-up. Returns 0, or 3 for a number that is no module's, and then the module stays as it was.
 #[unsafe(no_mangle)]
 pub extern "C" fn chimneyrye_power_up(m: &mut Module, number: u16) -> u16
-    ensures { Gives (card.powered_up m.old number) m.new result }
+    ensures { (m.new ≡ (card.powered_up m.old number).card) × (result ≡ outcome_number (card.powered_up m.old number).outcome) }
 {
     let r = Module::power_up(*m, number);
     give(m, r)
@@ -52,7 +53,7 @@ fn cycle_on(kind: FileCycle, m: &mut Module, file: &mut [u16]) -> u16
 // The setup cycle, on a lent M0 file.
 #[unsafe(no_mangle)]
 pub extern "C" fn chimneyrye_setup(m: &mut Module, file: &mut [u16]) -> u16
-    ensures given { Gives (card.file_call SetupCycle m.old file.old) m.new result }
+    ensures given { (m.new ≡ (card.file_call SetupCycle m.old file.old).card) × (result ≡ outcome_number (card.file_call SetupCycle m.old file.old).outcome) }
     ensures file { file.new ≡ card.file_left SetupCycle m.old file.old }
 {
     cycle_on(FileCycle::SetupCycle, m, file)
@@ -61,7 +62,7 @@ pub extern "C" fn chimneyrye_setup(m: &mut Module, file: &mut [u16]) -> u16
 // The group cycle, on a lent M0 file.
 #[unsafe(no_mangle)]
 pub extern "C" fn chimneyrye_group(m: &mut Module, file: &mut [u16]) -> u16
-    ensures given { Gives (card.file_call GroupCycle m.old file.old) m.new result }
+    ensures given { (m.new ≡ (card.file_call GroupCycle m.old file.old).card) × (result ≡ outcome_number (card.file_call GroupCycle m.old file.old).outcome) }
     ensures file { file.new ≡ card.file_left GroupCycle m.old file.old }
 {
     cycle_on(FileCycle::GroupCycle, m, file)
@@ -70,7 +71,7 @@ pub extern "C" fn chimneyrye_group(m: &mut Module, file: &mut [u16]) -> u16
 // The limit cycle, on a lent M1 file.
 #[unsafe(no_mangle)]
 pub extern "C" fn chimneyrye_limit(m: &mut Module, file: &mut [u16]) -> u16
-    ensures given { Gives (card.file_call LimitCycle m.old file.old) m.new result }
+    ensures given { (m.new ≡ (card.file_call LimitCycle m.old file.old).card) × (result ≡ outcome_number (card.file_call LimitCycle m.old file.old).outcome) }
     ensures file { file.new ≡ card.file_left LimitCycle m.old file.old }
 {
     cycle_on(FileCycle::LimitCycle, m, file)
@@ -79,7 +80,7 @@ pub extern "C" fn chimneyrye_limit(m: &mut Module, file: &mut [u16]) -> u16
 // The nudge cycle.
 #[unsafe(no_mangle)]
 pub extern "C" fn chimneyrye_nudge(m: &mut Module, word: u16) -> u16
-    ensures { Gives (card.nudge_call m.old word) m.new result }
+    ensures { (m.new ≡ (card.nudge_call m.old word).card) × (result ≡ outcome_number (card.nudge_call m.old word).outcome) }
 {
     let r = nudge::nudge_cycle(*m, word);
     give(m, r)
@@ -111,7 +112,7 @@ pub extern "C" fn chimneyrye_read_byte(m: &Module, offset: u16) -> Byte
 #[tactic(auto, unfolding(rules::specs::Card::write_call))]
 #[unsafe(no_mangle)]
 pub extern "C" fn chimneyrye_write_byte(m: &mut Module, offset: u16, value: u8) -> u16
-    ensures { Gives (card.write_call m.old offset value) m.new result }
+    ensures { (m.new ≡ (card.write_call m.old offset value).card) × (result ≡ outcome_number (card.write_call m.old offset value).outcome) }
 {
     match bus::written(m.state.kept.bus, offset, value) {
         Ok(after) => {

@@ -1,10 +1,11 @@
 // The block reader: a group's words of M0 or an output's of M1, as part of that file.
 #![tactic(auto)]
 
-ghost use Rattle.std.specs.Prelude.{◌≡◌, [], cond, length, MatchResult};
+ghost use Rattle.std.specs.Prelude.{◌≡◌, true, false, [], cond, length, MatchResult};
 ghost use Rattle.rules.specs.Cycle.{number_of};
 ghost use Rattle.rules.specs.Reader as reader;
 ghost use Rattle.reader.specs.Block.{is_group};
+ghost use Rattle.reader.specs.declared.BlockOf.TheVariants.{Group, Output};
 
 use rules::{Module, Refusal};
 
@@ -65,7 +66,8 @@ pub fn read_block<'a>(
     n: u16,
     refusal: &mut u16,
 ) -> &'a [u16]
-    ensures { (result.now ≡ reader.reader_part m0.now m1.now (is_group of) n) × (refusal.new ≡ reader.reader_refusal (length m0.now) (length m1.now) (is_group of) n) }
+    ensures group { of ≡ Group → (result.now ≡ reader.reader_part m0.now m1.now true n) × (refusal.new ≡ reader.reader_refusal (length m0.now) (length m1.now) true n) }
+    ensures output { of ≡ Output → (result.now ≡ reader.reader_part m0.now m1.now false n) × (refusal.new ≡ reader.reader_refusal (length m0.now) (length m1.now) false n) }
 {
     match block(m0, m1, of, n) {
         Ok(part) => {

@@ -7,9 +7,10 @@ use lib.Seq.{take-append_seam}
 use Rattle.std.proofs.lemmas.Bool.{and_parts, false_from_ne_true}
 use Rattle.std.proofs.lemmas.Bool.Decides.{nat_tests}
 use Rattle.std.proofs.lemmas.List.Sums.{count_by-le-length}
+use Rattle.df1.specs.declared.Direction.{Direction}
 use Rattle.df1.specs.declared.Refusal.{Refusal}
 use Rattle.df1.specs.declared.Refusal.TheVariants.{DataLength, ShortBuffer, NotAFrame}
-use Rattle.df1.specs.Frame.{dle, allowed, sent, doubled, frame_of, data_of, is_frame, fit_outcome, write_outcome, read_outcome, buffer_after, write_buffer, read_buffer}
+use Rattle.df1.specs.Frame.{dle, allowed, sent, doubled, frame_of, data_of, is_frame, length_given, fit_outcome, write_outcome, read_outcome, buffer_after, write_buffer, read_buffer, outcome_of}
 use Rattle.df1.proofs.Laws.{same_true, same_refl}
 use Rattle.df1.proofs.Parts.{frame_data}
 use Rattle.df1.proofs.Answers.{frame_size}
@@ -151,6 +152,15 @@ read_accepted input room n =
       λ h. let b = e.0 h in (data_of input, accepted_frame input b.0, leb-true (length (data_of input)) room b.1, b.2),
       λ h. let r = one_reading h.0 input h.1 in e.1 (r.0, le-leb (length (data_of input)) room (rw (← r.1) at h.2), rw r.1 h.3),
     )
+
+-- a refused call gives the length 0, an accepted one that of what it put
+pub refused_gives_0 : (d : Direction) (bytes : List ℕ) (room : ℕ) (why : Refusal) → outcome_of d bytes room ≡ Err why → length_given (outcome_of d bytes room) ≡ 0
+unfolding length_given
+refused_gives_0 d bytes room why h = rw h
+
+pub accepted_gives : (d : Direction) (bytes : List ℕ) (room n : ℕ) → outcome_of d bytes room ≡ Ok n → length_given (outcome_of d bytes room) ≡ n
+unfolding length_given
+accepted_gives d bytes room n h = rw h
 
 -- ---- From a writer's buffer to a reader's, and back
 

@@ -87,6 +87,11 @@ unfoldable pub outcome_number : Result ℕ Refusal → ℕ
 outcome_number (Ok n) = 0
 outcome_number (Err why) = number_of why
 
+-- "each gives the length": of what was put into the buffer, so 0 on a refusal
+unfoldable pub length_given : Result ℕ Refusal → ℕ
+length_given (Ok n) = n
+length_given (Err why) = 0
+
 -- "each gives the length": of what was put into the buffer; 16 for a lent buffer that is shorter than what is to be put into it
 unfoldable pub fit_outcome : ℕ → ℕ → Result ℕ Refusal
 fit_outcome n room = cond (nat_le n room) (Ok n) (Err ShortBuffer)

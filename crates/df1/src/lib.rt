@@ -61,6 +61,17 @@ pub fn number_of(outcome: Result<usize, Refusal>) -> u16
     }
 }
 
+// The length that a call gives: 0 where it was refused.
+#[tactic(auto, unfolding(crate::specs::Frame::length_given))]
+pub fn length_of(outcome: Result<usize, Refusal>) -> usize
+    ensures { result ≡ frame.length_given outcome }
+{
+    match outcome {
+        Ok(n) => n,
+        Err(_) => 0,
+    }
+}
+
 // Which of the two calls a program makes.
 #[derive(Clone, Copy)]
 pub enum Direction {

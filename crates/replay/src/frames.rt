@@ -2,7 +2,7 @@
 ghost use Rattle.std.specs.Prelude.{◌≡◌, length, min};
 
 use crate::answer::Bytes;
-use df1::{Direction, number_of};
+use df1::{Direction, length_of, number_of};
 
 // The low bytes of a file's words, at the room's start. Data or a frame that the room has not whole is refused by the part that it has.
 fn low_bytes<'a>(words: &[u16], room: &'a mut [u8; 651]) -> &'a [u8]
@@ -25,7 +25,7 @@ fn show_call(to: &impl Print, direction: Direction, bytes: &[u8], out: &mut [u8]
     let _ = println!(to;
         "{name} {} {}{space}{}",
         number_of(made),
-        made.unwrap_or(0),
+        length_of(made),
         Bytes(out)
     );
 }

@@ -1,5 +1,5 @@
 -- 15, then 16, then the frame. Assumes nothing.
-use Rattle.std.proofs.Common.{◌≡◌, ◌+◌, length, ℕ, ap, ◌∙◌, arith, ◌++◌, drop}
+use Rattle.std.proofs.Common.{◌≡◌, ◌+◌, length, ℕ, Ok, ap, ◌∙◌, arith, ◌++◌, drop}
 use Rattle.std.proofs.lemmas.Result.{err_from_is_err_and}
 use Rattle.df1.specs.Frame.{frame_of, doubled, check_byte, write_buffer}
 use Rattle.df1.proofs.Laws.{doubled_length}
@@ -26,7 +26,7 @@ returns-in_err-n-clause-buffer c =
     refused_leaves _ _ (frame_of c.args.bytes.now) c.args.out.now (c.in_err-n.ensures.outcome ∙ write_fit c.args.bytes.now (length c.args.out.now) c.if-not-is_allowed.ensures c.dle_count.ensures)
 
 pub returns-clause-outcome : goal.returns-clause-outcome
-returns-clause-outcome c = c.in_ok-n.ensures.outcome ∙ write_fit c.args.bytes.now (length c.args.out.now) c.if-not-is_allowed.ensures c.dle_count.ensures
+returns-clause-outcome c = ap (λ (n : ℕ). Ok n) (omega (arith, c.in_ok-n.ensures.within)) ∙ c.in_ok-n.ensures.outcome ∙ write_fit c.args.bytes.now (length c.args.out.now) c.if-not-is_allowed.ensures c.dle_count.ensures
 
 pub returns-clause-buffer : goal.returns-clause-buffer
 unfolding write_buffer frame_of
